@@ -53,3 +53,7 @@ halfAt s at = cond (fits 2 s at) (Some (half s at)) None
 
 abbrev pub wordAt : List ℕ → ℕ → Option ℕ
 wordAt s at = cond (fits 4 s at) (Some (word s at)) None
+
+-- What a read of a page answers.
+abbrev pub pageAt : List ℕ → ℕ → Option (List ℕ)
+pageAt s at = cond (fits 2048 s at) (Some (page s at)) None
