@@ -137,12 +137,14 @@ parts Bytes4096 Bytes1048576 a segment page byte h =
     let e = h .sum in let l = h .in-page in let m = h .in-segment in
     record { segment-is = omega arith; page-is = omega arith; byte-is = omega arith }
 
-checked-ok : (w : Controls) (a : ℕ) (z : Sizes) → checked w a ≡ Ok z → (a < 16777216) × (sizesOf (w .cr0) ≡ Some z)
+pub checked-ok : (w : Controls) (a : ℕ) (z : Sizes) → checked w a ≡ Ok z → (a < 16777216) × (sizesOf (w .cr0) ≡ Some z)
+unfolding checked
 checked-ok w a z e =
     let t = then-ok (ltb a 16777216) (orRefuse (sizesOf (w .cr0)) TranslationSpecification) Addressing z e in
     (ltb-true _ _ (t .0), or-ok (sizesOf (w .cr0)) TranslationSpecification z (t .1))
 
-checked-of : (w : Controls) (a : ℕ) (z : Sizes) → a < 16777216 → sizesOf (w .cr0) ≡ Some z → checked w a ≡ Ok z
+pub checked-of : (w : Controls) (a : ℕ) (z : Sizes) → a < 16777216 → sizesOf (w .cr0) ≡ Some z → checked w a ≡ Ok z
+unfolding checked
 checked-of w a z h e =
     ap (λ b. cond b (orRefuse (sizesOf (w .cr0)) TranslationSpecification) (Err Addressing)) (lt-ltb _ _ h)
     ∙ ap (λ o. orRefuse o TranslationSpecification) e

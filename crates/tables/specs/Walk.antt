@@ -64,7 +64,7 @@ sizesOf cr0 =
     cond (eqb (wordBits 10 10 cr0) 0) (bothSizes (pageSizeOf (wordBits 8 9 cr0)) (segmentSizeOf (wordBits 11 12 cr0))) None
 
 -- Steps 1 and 2: the address has 24 bits, and control word 0 names the sizes.
-abbrev pub checked : Controls → ℕ → Result Sizes Refusal
+unfoldable pub checked : Controls → ℕ → Result Sizes Refusal
 checked w a = cond (ltb a 16777216) (orRefuse (sizesOf (w .cr0)) TranslationSpecification) (Err Addressing)
 
 -- Step 3: the three parts of the address.
@@ -76,6 +76,10 @@ pageIndex z a = a % segmentBytes (z .segment) / pageBytes (z .page)
 
 abbrev pub byteIndex : Sizes → ℕ → ℕ
 byteIndex z a = a % segmentBytes (z .segment) % pageBytes (z .page)
+
+-- The page that an address is in, counted from address 0.
+abbrev pub pageNumber : Sizes → ℕ → ℕ
+pageNumber z a = a / pageBytes (z .page)
 
 -- How many pages a segment has.
 abbrev pub pagesIn : Sizes → ℕ

@@ -5,9 +5,10 @@
 //! own words, in `specs/Leads.antt`.
 ghost use Prim.Native.Nat.{ℕ, _+_, _-_, _*_, _/_, _%_, _^_, _<_, _≤_};
 ghost use mathlib.Core.Path.{_≡_};
+ghost use Rattle.std.specs.Vec.{made};
 ghost use Rattle.tables.specs.Bits.{halfBits, wordBits};
 ghost use Rattle.tables.specs.Leads.{Exact};
-ghost use Rattle.tables.specs.Walk.{byteIndex, checked, frameField, frameStart, invalid, located, numberOf, pageBytes, pageEntry, pageIndex, reservedOff, segmentBytes, segmentEntry, segmentIndex, sizesOf, soundPage, soundSegment, validPage, walk};
+ghost use Rattle.tables.specs.Walk.{byteIndex, checked, frameField, frameStart, invalid, located, numberOf, pageBytes, pageEntry, pageIndex, pageNumber, reservedOff, segmentBytes, segmentEntry, segmentIndex, sizesOf, soundPage, soundSegment, validPage, walk};
 
 /// Both control words of a translator.
 #[derive(Clone, Copy, PartialEq, Eq)]
@@ -82,6 +83,38 @@ pub struct Sizes {
     pub segment: SegmentSize,
 }
 
+impl Sizes {
+    /// The page that an address is in, counted from address 0.
+    pub fn page_number(self, address: u32) -> u32
+        ensures { λ r. ⌜ r ≡ pageNumber self address ⌝ }
+    {
+        address / self.page.bytes()
+    }
+
+    /// The segment that an address is in.
+    pub fn segment_index(self, address: u32) -> u32
+        ensures value { λ r. ⌜ r ≡ segmentIndex self address ⌝ }
+        ensures small { λ r. ⌜ (address < 16777216 → r < 256) ⌝ }
+    {
+        address / self.segment.bytes()
+    }
+
+    /// The page of its segment that an address is in.
+    pub fn page_index(self, address: u32) -> u32
+        ensures value { λ r. ⌜ r ≡ pageIndex self address ⌝ }
+        ensures small { λ r. ⌜ r < 512 ⌝ }
+    {
+        address % self.segment.bytes() / self.page.bytes()
+    }
+
+    /// The byte of its page that an address names.
+    pub fn byte_index(self, address: u32) -> u32
+        ensures { λ r. ⌜ r ≡ byteIndex self address ⌝ }
+    {
+        address % self.segment.bytes() % self.page.bytes()
+    }
+}
+
 /// Addresses stop here: an address has 24 bits.
 pub const ADDRESSES: u32 = 16_777_216;
 
@@ -123,7 +156,8 @@ pub fn named_sizes(cr0: u32) -> Option<Sizes>
 
 /// The first two steps: the address has 24 bits, and control word 0 names the sizes.
 pub fn checked(controls: Controls, address: u32) -> Result<Sizes, Refusal>
-    ensures { λ r. ⌜ r ≡ checked controls address ⌝ }
+    ensures answer { λ r. ⌜ r ≡ checked controls address ⌝ }
+    ensures short { λ r. ⌜ made r (λ _. address < 16777216) ⌝ }
 {
     if address >= ADDRESSES {
         return Err(Refusal::Addressing);
@@ -266,15 +300,8 @@ pub fn walk(storage: &[u8], controls: Controls, address: u32) -> Result<usize, R
     ensures exact { λ _. ⌜ Exact (now (storage .entry)) controls address ⌝ }
 {
     let sizes = checked(controls, address)?;
-    let in_segment = address % sizes.segment.bytes();
-    let page = in_segment / sizes.page.bytes();
-    let byte = in_segment % sizes.page.bytes();
-    let start = frame_start(
-        storage,
-        controls,
-        sizes,
-        address / sizes.segment.bytes(),
-        page,
-    )?;
-    located(storage, start, byte)
+    let segment = sizes.segment_index(address);
+    let page = sizes.page_index(address);
+    let start = frame_start(storage, controls, sizes, segment, page)?;
+    located(storage, start, sizes.byte_index(address))
 }
