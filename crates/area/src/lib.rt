@@ -7,11 +7,9 @@ ghost use Rattle.std.specs.Of.Vec.{vec-items};
 ghost use Rattle.area.specs.Plain.{plainRules, plainFault};
 use pages::fault::Fault;
 use pages::fault::StoreRefusal;
+use pages::store::MOST_SLOTS;
 use pages::store::PageStore;
 use storage::PAGE;
-
-/// Slots at most, in a store of any kind.
-const MOST: usize = 8192;
 
 /// The area, as it was handed in and then written to.
 #[derive(Drop)]
@@ -63,7 +61,7 @@ pub impl PageStore for PlainArea as PlainAreaStore {
     }
 
     fn count(&self) -> u32 {
-        (self.area.len() / PAGE).min(MOST) as u32
+        (self.area.len() / PAGE).min(MOST_SLOTS as usize) as u32
     }
 
     fn good(&self, slot: u32) -> Result<(), Fault> {

@@ -1,22 +1,21 @@
-// What a page store tells where it refuses a call.
-
+//! What a page store tells where it refuses a call.
 ghost use mathlib.Core.Path.{_≡_};
 ghost use Rattle.pages.specs.Numbers.{refusalNumber};
 use std::fmt;
 
-// Why a page store refuses a call, in the order in which the cases are tested.
+/// Why a page store refuses a call, in the order in which the cases are tested.
 #[derive(Clone, Copy, PartialEq, Eq, Debug)]
 pub enum StoreRefusal {
-    // the buffer has not 2,048 bytes
+    /// the buffer has not 2,048 bytes
     WrongLength,
-    // the slot is not below the number of slots
+    /// the slot is not below the number of slots
     NoSuchSlot,
-    // the slot is bad
+    /// the slot is bad
     BadSlot,
 }
 
 impl StoreRefusal {
-    // The number under which an operator knows the refusal.
+    /// The number under which an operator knows the refusal.
     pub fn number(self) -> u8
         ensures { λ r. ⌜ r ≡ refusalNumber self ⌝ }
     {
@@ -28,7 +27,7 @@ impl StoreRefusal {
     }
 }
 
-// The fault of a store below, whole, as a store laid over it carries it.
+/// The fault of a store below, whole, as a store laid over it carries it.
 #[derive(Clone, Copy, PartialEq, Eq, Debug)]
 pub struct Cause {
     pub refusal: StoreRefusal,
@@ -36,7 +35,7 @@ pub struct Cause {
     pub slot: u32,
 }
 
-// A refused call: why, by which kind of store, at which slot, and the fault of a store below that led to it, if any.
+/// A refused call: why, by which kind of store, at which slot, and the fault of a store below that led to it, if any.
 #[derive(Clone, Copy, PartialEq, Eq, Debug)]
 pub struct Fault {
     pub refusal: StoreRefusal,
@@ -47,8 +46,12 @@ pub struct Fault {
 
 pub impl fmt::Display for StoreRefusal as StoreRefusalDisplay {
     fn fmt<W: fmt::Write>(&self, f: &mut fmt::Formatter<W>) -> fmt::Result {
-        let number = self.number();
-        write!(f, "{number}")
+        let why = match self {
+            StoreRefusal::WrongLength => "the buffer has not 2048 bytes",
+            StoreRefusal::NoSuchSlot => "no such slot",
+            StoreRefusal::BadSlot => "the slot is bad",
+        };
+        write!(f, "{why}")
     }
 }
 
@@ -61,7 +64,7 @@ pub impl fmt::Display for Cause as CauseDisplay {
     }
 }
 
-// As `51 kind 2 slot 4`, and the fault below in parentheses after it.
+/// As `51 kind 2 slot 4`, and the fault below in parentheses after it.
 pub impl fmt::Display for Fault as FaultDisplay {
     fn fmt<W: fmt::Write>(&self, f: &mut fmt::Formatter<W>) -> fmt::Result {
         let number = self.refusal.number();
