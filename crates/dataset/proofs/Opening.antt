@@ -50,13 +50,6 @@ pub unknown : (b : List ℕ) (n k : ℕ) → k < n → 3 ≤ markOf b k → mark
 unknown b n k l h =
     elim (cases-bool (marksKnown b n)) [ inl t ↦ absurd (let g = known-at b n k t l in omega arith) | inr t ↦ t ]
 
--- What is known of an area that opening accepts.
-pub record Formed (b : List ℕ) : Type 0 where
-  pub size : word b 4 ≡ 2048
-  pub few : word b 0 ≤ 8192
-  pub long : length b ≡ 8 + word b 0 + 2048 * word b 0
-  pub marks : (k : ℕ) → k < word b 0 → markOf b k < 3
-
 -- A number that was read, or not, says where the area ends.
 some-picked : (t : Bool) (x y : ℕ) → Some x ≡ cond t (Some y) None → (t ≡ true) × (x ≡ y)
 some-picked true x y e = (refl, cc)

@@ -1,7 +1,7 @@
 -- The format of a page data set: the number of slots and the page size, 4 bytes each, a mark byte for each slot, then
 -- 2,048 bytes for each slot. Mark 0 is blank, 1 written, 2 bad.
 use mathlib.Core.Path.{_≡_}
-use mathlib.Core.Bool.{Bool, true, false, cond}
+use mathlib.Core.Bool.{Bool, true, false, cond, _&&_}
 use mathlib.Core.List.{List}
 use Prim.Native.Nat.{ℕ, zero, suc, _+_, _*_, _<_}
 use lib.Dec.{eqb, ltb, leb}
@@ -72,7 +72,7 @@ abbrev pub setRules : Rules (List ℕ)
 setRules = record {
   good = λ bytes. Unit {0};
   count = λ bytes. slotsIn bytes;
-  bad = λ bytes k. eqb (markOf bytes k) 2;
+  bad = λ bytes k. ltb k (slotsIn bytes) && eqb (markOf bytes k) 2;
   slot = λ bytes k. cond (eqb (markOf bytes k) 1) (page bytes (placeOf bytes k)) zeros;
   write = λ bytes k p. putPage (set bytes (8 + k) 1) (placeOf bytes k) p;
   fault = λ bytes why k. setFault why k;

@@ -1,13 +1,27 @@
 //! The area of a page data set, and what opening it found.
 ghost use mathlib.Core.Path.{_≡_};
-ghost use Prim.Native.Nat.{_+_, _≤_};
+ghost use mathlib.Core.Bool.{cond};
+ghost use mathlib.Core.List.{List};
+ghost use Prim.Native.Nat.{ℕ, _+_, _≤_};
+ghost use lib.Dec.{ltb};
 ghost use lib.ListN.{length};
+ghost use Rattle.std.specs.declared.option.Option.the-variants.{Some, None};
 ghost use Rattle.std.specs.Of.Vec.{vec-items};
-ghost use Rattle.dataset.specs.Format.{marksKnown, opened, whyNot};
+ghost use Rattle.dataset.specs.Format.{markOf, marksKnown, opened, placeOf, setFault, setRules, slotsIn, whyNot};
 use crate::refusal::OpenRefusal;
+use pages::fault::Fault;
+use pages::fault::StoreRefusal;
 use pages::store::MOST_SLOTS;
+use pages::store::PageStore;
 use storage::PAGE;
 use storage::word;
+
+/// Bytes of the two numbers at the front.
+const FRONT: usize = 8;
+
+/// The marks of a slot that was written, and of a bad one. A blank slot has mark 0.
+const WRITTEN: u8 = 1;
+const BAD: u8 = 2;
 
 /// An area that was opened. Where opening refused it, it is kept as it is and the store has no slots.
 #[derive(Drop)]
@@ -37,6 +51,23 @@ impl DataSet {
         }
     }
 
+    /// The mark of a slot, or none where there is no such slot.
+    pub fn mark(&self, slot: u32) -> Option<u8>
+        ensures { λ r. ⌜ r ≡ cond (ltb slot (slotsIn (vec-items (now (self .entry) .area)))) (Some (markOf (vec-items (now (self .entry) .area)) slot)) None ⌝ }
+    {
+        if slot >= self.count() {
+            return None;
+        }
+        Some(self.area[FRONT + slot as usize])
+    }
+
+    /// Where the bytes of a slot begin.
+    fn place(&self, slot: u32) -> usize
+        ensures { λ r. ⌜ r ≡ placeOf (vec-items (now (self .entry) .area)) slot ⌝ }
+    {
+        FRONT + self.count() as usize + PAGE * slot as usize
+    }
+
     /// The area, to be saved: byte for byte what the format says.
     pub fn into_area(self) -> Vec<u8>
         ensures { λ r. ⌜ r ≡ self .area ⌝ }
@@ -62,7 +93,7 @@ fn check(area: &[u8]) -> Result<u32, OpenRefusal>
         return Err(OpenRefusal::TooManySlots);
     }
     let count = slots as usize;
-    if area.len() != 8 + count + PAGE * count {
+    if area.len() != FRONT + count + PAGE * count {
         return Err(OpenRefusal::OtherLength);
     }
     if !marks_known(area, count) {
@@ -77,9 +108,73 @@ fn marks_known(area: &[u8], count: usize) -> bool
     ensures { λ r. ⌜ r ≡ marksKnown (now (area .entry)) count ⌝ }
 {
     for k in 0..count {
-        if area[8 + k] > 2 {
+        if area[FRONT + k] > BAD {
             return false;
         }
     }
     true
+}
+
+/// A fault of this kind of store.
+fn refused(refusal: StoreRefusal, slot: u32) -> Fault
+    ensures { λ r. ⌜ r ≡ setFault refusal slot ⌝ }
+{
+    Fault { refusal, kind: DataSetStore::KIND, slot, cause: None }
+}
+
+pub impl PageStore for DataSet as DataSetStore {
+    const KIND: u8 = 2;
+
+    ghost Model = { List ℕ };
+
+    ghost model = { λ s. vec-items (s .area) };
+
+    ghost rules = { setRules };
+
+    ghost number = { 2 };
+
+    fn kind_number() -> u8 {
+        Self::KIND
+    }
+
+    fn count(&self) -> u32 {
+        match self.slots {
+            Ok(slots) => slots,
+            Err(_) => 0,
+        }
+    }
+
+    fn good(&self, slot: u32) -> Result<(), Fault> {
+        match self.mark(slot) {
+            None => Err(refused(StoreRefusal::NoSuchSlot, slot)),
+            Some(BAD) => Err(refused(StoreRefusal::BadSlot, slot)),
+            Some(_) => Ok(()),
+        }
+    }
+
+    fn read(&self, slot: u32, page: &mut [u8]) -> Result<(), Fault> {
+        if page.len() != PAGE {
+            return Err(refused(StoreRefusal::WrongLength, slot));
+        }
+        self.good(slot)?;
+        if self.area[FRONT + slot as usize] != WRITTEN {
+            page.fill(0);
+            return Ok(());
+        }
+        let at = self.place(slot);
+        page.copy_from_slice(&self.area[at..at + PAGE]);
+        Ok(())
+    }
+
+    fn write(&mut self, slot: u32, page: &[u8]) -> Result<(), Fault> {
+        if page.len() != PAGE {
+            return Err(refused(StoreRefusal::WrongLength, slot));
+        }
+        self.good(slot)?;
+        let at = self.place(slot);
+        self.area[FRONT + slot as usize] = WRITTEN;
+        let part = &mut self.area[at..at + PAGE];
+        part.copy_from_slice(page);
+        Ok(())
+    }
 }

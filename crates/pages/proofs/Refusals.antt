@@ -49,19 +49,20 @@ module _ {M : Type 0} (r : Rules M) (m : M) (k n : ℕ) where
       let t = passed (eqb n 2048) (ltb k (r .count m)) (r .bad m k) e in
       (eqb-true n 2048 (t .0), (ltb-true k (r .count m) (t .1), t .2))
 
-  -- A call is answered only where nothing refuses it.
-  pub answered : (o : Option StoreRefusal) → Ok tt ≡ told r m k o → o ≡ None
-  answered None e = refl
-  answered (Some why) e = absurd (ok-err tt (r .fault m why k) e)
+-- A call is answered only where nothing refuses it.
+answered : {M : Type 0} (r : Rules M) (m : M) (k : ℕ) (o : Option StoreRefusal) → Ok tt ≡ told r m k o → o ≡ None
+answered r m k None e = refl
+answered r m k (Some why) e = absurd (ok-err tt (r .fault m why k) e)
 
--- After `good` has answered, at a buffer of 2,048 bytes.
+-- After `good` has answered.
+pub usable : {M : Type 0} (r : Rules M) (m : M) (k : ℕ) → Ok tt ≡ told r m k (refusalAt r m k 2048) → Usable r m k
+usable r m k ok = none-usable r m k 2048 (answered r m k (refusalAt r m k 2048) ok) .1
+
+-- And at a buffer of 2,048 bytes.
 module _ {M : Type 0} (r : Rules M) (m : M) (k : ℕ) (buffer : List ℕ)
     (e : length buffer ≡ 2048) (ok : Ok tt ≡ told r m k (refusalAt r m k 2048)) where
-  pub usable : Usable r m k
-  usable = none-usable r m k 2048 (answered r m k 2048 (refusalAt r m k 2048) ok) .1
-
   none : None ≡ refusalAt r m k (length buffer)
-  none = sym (unrefused r m k (length buffer) e usable)
+  none = sym (unrefused r m k (length buffer) e (usable r m k ok))
 
   pub told-done : Ok tt ≡ told r m k (refusalAt r m k (length buffer))
   told-done = ap (told r m k) none

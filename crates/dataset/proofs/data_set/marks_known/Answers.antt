@@ -10,8 +10,8 @@ loop-k-holds c = known-none (c .args .area .now)
 pub loop-k-again : need.loop-k-again
 loop-k-again c = known-more (c .args .area .now) (c .loop-k .k) (c .loop-k .inv) (omega arith)
 
-pub returns-then-area-k-gt2 : need.returns-then-area-k-gt2
-returns-then-area-k-gt2 c = sym (unknown (c .args .area .now) (c .args .count) (c .loop-k .k) (omega arith) (omega arith))
+pub returns-then-area-k-gt-BAD : need.returns-then-area-k-gt-BAD
+returns-then-area-k-gt-BAD c = sym (unknown (c .args .area .now) (c .args .count) (c .loop-k .k) (omega arith) (omega arith))
 
 pub returns : need.returns
 returns c =
