@@ -3,7 +3,7 @@
 use mathlib.Core.Path.{_≡_}
 use mathlib.Core.Bool.{Bool, true, false, cond, _&&_}
 use mathlib.Core.List.{List}
-use Prim.Native.Nat.{ℕ, zero, suc, _+_, _*_, _<_}
+use Prim.Native.Nat.{ℕ, zero, suc, _+_, _*_, _<_, _≤_}
 use lib.Dec.{eqb, ltb, leb}
 use lib.ListN.{length, getD, set, replicate}
 use Rattle.std.specs.declared.option.Option.{Option}
@@ -13,10 +13,13 @@ use Rattle.std.specs.declared.result.Result.the-variants.{Ok, Err}
 use Rattle.std.specs.Results.{isOk}
 use Rattle.pages.specs.declared.fault.Fault.{Fault}
 use Rattle.pages.specs.declared.fault.StoreRefusal.{StoreRefusal}
+use Rattle.pages.specs.declared.fault.StoreRefusal.the-variants as StoreRefusal
 use Rattle.pages.specs.Store.{Rules}
 use Rattle.storage.specs.Bytes.{word, page, putPage, putWord, zeros}
 use Rattle.dataset.specs.declared.refusal.OpenRefusal.{OpenRefusal}
 use Rattle.dataset.specs.declared.refusal.OpenRefusal.the-variants.{TooShort, OtherPageSize, TooManySlots, OtherLength, UnknownMark}
+use Rattle.dataset.specs.declared.refusal.BlankRefusal.{BlankRefusal}
+use Rattle.dataset.specs.declared.refusal.BlankRefusal.the-variants.{TooManySlots as TooManyAsked, NoMemory}
 use Rattle.dataset.specs.declared.refusal.MarkRefusal.{MarkRefusal}
 use Rattle.dataset.specs.declared.refusal.MarkRefusal.the-variants.{NoSuchSlot, NotDataSet}
 
@@ -78,9 +81,21 @@ setRules = record {
   fault = λ bytes why k. setFault why k;
 }
 
--- A data set of n blank slots.
-abbrev pub blankSet : ℕ → List ℕ
+-- The bytes of a data set of n blank slots.
+unfoldable pub blankSet : ℕ → List ℕ
 blankSet n = putWord (putWord (replicate (8 + n + 2048 * n) 0) 0 n) 4 2048
+
+-- A data set of n slots, each of them blank: good, and read as zeros.
+pub record Blank (n : ℕ) (bytes : List ℕ) : Type 0 where
+  pub accepted : opened bytes ≡ Ok n
+  pub marks : (k : ℕ) → k < n → markOf bytes k ≡ 0
+  pub good : (k : ℕ) → k < n → setRules .bad bytes k ≡ false
+  pub zero-pages : (k : ℕ) → k < n → setRules .slot bytes k ≡ zeros
+
+-- When each refusal to make one holds.
+abbrev pub blankRefused : ℕ → BlankRefusal → Type 0
+blankRefused n TooManyAsked = 8192 < n
+blankRefused n NoMemory = n ≤ 8192
 
 -- A mark byte put into a data set, and what opening it again answers.
 abbrev pub marked : List ℕ → ℕ → ℕ → List ℕ
@@ -92,3 +107,7 @@ reopened (Err why) = Err (NotDataSet why)
 
 abbrev pub markAnswer : List ℕ → ℕ → ℕ → Result (Unit {0}) MarkRefusal
 markAnswer bytes k v = cond (ltb k (slotsIn bytes)) (reopened (opened (set bytes (8 + k) v))) (Err NoSuchSlot)
+
+-- What marking a slot bad answers.
+abbrev pub badAnswer : List ℕ → ℕ → Result (Unit {0}) Fault
+badAnswer bytes k = cond (ltb k (slotsIn bytes)) (Ok tt) (Err (setFault StoreRefusal.NoSuchSlot k))

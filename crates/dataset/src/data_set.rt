@@ -7,13 +7,19 @@ ghost use lib.Dec.{ltb};
 ghost use lib.ListN.{length};
 ghost use Rattle.std.specs.declared.option.Option.the-variants.{Some, None};
 ghost use Rattle.std.specs.Of.Vec.{vec-items};
-ghost use Rattle.dataset.specs.Format.{markOf, marksKnown, opened, placeOf, setFault, setRules, slotsIn, whyNot};
+ghost use Rattle.std.specs.Results.{Cases};
+ghost use Rattle.std.specs.Vec.{made};
+ghost use Rattle.dataset.specs.Format.{Blank, badAnswer, blankRefused, blankSet, markAnswer, markOf, marked, marksKnown, opened, placeOf, setFault, setRules, slotsIn, whyNot};
+use crate::refusal::BlankRefusal;
+use crate::refusal::MarkRefusal;
 use crate::refusal::OpenRefusal;
 use pages::fault::Fault;
 use pages::fault::StoreRefusal;
 use pages::store::MOST_SLOTS;
 use pages::store::PageStore;
+use std::alloc::Global;
 use storage::PAGE;
+use storage::put_word;
 use storage::word;
 
 /// Bytes of the two numbers at the front.
@@ -41,6 +47,23 @@ impl DataSet {
         DataSet { area, slots }
     }
 
+    /// A data set of so many blank slots.
+    pub fn blank(heap: Global, slots: u32) -> Result<DataSet, BlankRefusal>
+        ensures cases { λ r. ⌜ Cases r (λ d. (slots ≤ 8192) × (vec-items (d .area) ≡ blankSet slots)) (blankRefused slots) ⌝ }
+        ensures slots { λ r. ⌜ made r (λ d. Blank slots (vec-items (d .area))) ⌝ }
+    {
+        if slots > MOST_SLOTS {
+            return Err(BlankRefusal::TooManySlots);
+        }
+        let count = slots as usize;
+        let Ok(mut area) = vec![in heap; 0u8; FRONT + count + PAGE * count] else {
+            return Err(BlankRefusal::NoMemory);
+        };
+        put_word(&mut area, 0, slots);
+        put_word(&mut area, 4, PAGE as u32);
+        Ok(DataSet { area, slots: Ok(slots) })
+    }
+
     /// Why the area was refused, if it was.
     pub fn refusal(&self) -> Option<OpenRefusal>
         ensures { λ r. ⌜ r ≡ whyNot (opened (vec-items (now (self .entry) .area))) ⌝ }
@@ -59,6 +82,35 @@ impl DataSet {
             return None;
         }
         Some(self.area[FRONT + slot as usize])
+    }
+
+    /// Puts a mark of any value at a slot and opens the area again.
+    pub fn set_mark(&mut self, slot: u32, mark: u8) -> Result<(), MarkRefusal>
+        ensures answer { λ r. ⌜ r ≡ markAnswer (vec-items (now (self .entry) .area)) slot mark ⌝ }
+        ensures after { λ _. ⌜ vec-items (now (self .exit) .area) ≡ marked (vec-items (now (self .entry) .area)) slot mark ⌝ }
+    {
+        if slot >= self.count() {
+            return Err(MarkRefusal::NoSuchSlot);
+        }
+        self.area[FRONT + slot as usize] = mark;
+        self.slots = check(&self.area);
+        match self.slots {
+            Ok(_) => Ok(()),
+            Err(why) => Err(MarkRefusal::NotDataSet(why)),
+        }
+    }
+
+    /// Marks a slot bad.
+    pub fn mark_bad(&mut self, slot: u32) -> Result<(), Fault>
+        ensures answer { λ r. ⌜ r ≡ badAnswer (vec-items (now (self .entry) .area)) slot ⌝ }
+        ensures after { λ _. ⌜ vec-items (now (self .exit) .area) ≡ marked (vec-items (now (self .entry) .area)) slot 2 ⌝ }
+        ensures kept { λ _. ⌜ opened (vec-items (now (self .exit) .area)) ≡ opened (vec-items (now (self .entry) .area)) ⌝ }
+    {
+        if slot >= self.count() {
+            return Err(refused(StoreRefusal::NoSuchSlot, slot));
+        }
+        self.area[FRONT + slot as usize] = BAD;
+        Ok(())
     }
 
     /// Where the bytes of a slot begin.

@@ -48,6 +48,15 @@ impl MarkRefusal {
     }
 }
 
+/// Why no blank data set was made.
+#[derive(Clone, Copy, PartialEq, Eq, Debug)]
+pub enum BlankRefusal {
+    /// A data set has at most 8,192 slots.
+    TooManySlots,
+    /// There is no memory for the area.
+    NoMemory,
+}
+
 pub impl fmt::Display for OpenRefusal as OpenRefusalDisplay {
     fn fmt<W: fmt::Write>(&self, f: &mut fmt::Formatter<W>) -> fmt::Result {
         let why = match self {
@@ -66,6 +75,15 @@ pub impl fmt::Display for MarkRefusal as MarkRefusalDisplay {
         match self {
             MarkRefusal::NoSuchSlot => write!(f, "no such slot"),
             MarkRefusal::NotDataSet(why) => write!(f, "{why}"),
+        }
+    }
+}
+
+pub impl fmt::Display for BlankRefusal as BlankRefusalDisplay {
+    fn fmt<W: fmt::Write>(&self, f: &mut fmt::Formatter<W>) -> fmt::Result {
+        match self {
+            BlankRefusal::TooManySlots => write!(f, "a data set has at most 8192 slots"),
+            BlankRefusal::NoMemory => write!(f, "no memory"),
         }
     }
 }
