@@ -67,9 +67,9 @@ module _ (n : ℕ) (bare first both : List ℕ) (b : bare ≡ replicate (8 + n +
     accepted = formed-opened both (formed few) ∙ ap Ok (slots-is few);
     marks = mark-is;
     good = λ k h.
-      ap (λ m. ltb k (slotsIn both) && eqb m 2) (mark-is k h)
-      ∙ ap (λ r. ltb k (slotsOf r) && false) (formed-opened both (formed few) ∙ ap Ok (slots-is few))
-      ∙ ap (λ t. t && false) (lt-ltb k n h);
+        ap (λ m. ltb k (slotsIn both) && eqb m 2) (mark-is k h)
+        ∙ ap (λ r. ltb k (slotsOf r) && false) (formed-opened both (formed few) ∙ ap Ok (slots-is few))
+        ∙ ap (λ t. t && false) (lt-ltb k n h);
     zero-pages = λ k h. ap (λ m. cond (eqb m 1) (page both (placeOf both k)) zeros) (mark-is k h);
   }
 

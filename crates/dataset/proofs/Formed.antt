@@ -44,19 +44,26 @@ module _ (b : List ℕ) where
   pub opened-formed : (n : ℕ) → opened b ≡ Ok n → Formed b × (n ≡ word b 0)
   unfolding opened
   opened-formed n e =
-      let t = passed (leb 8 (length b)) (eqb (word b 4) 2048) (leb (word b 0) 8192) (eqb (length b) (8 + word b 0 + 2048 * word b 0)) (marksKnown b (word b 0)) (word b 0) n e in
-      (record {
-        size = eqb-true (word b 4) 2048 (t .0);
-        few = leb-true (word b 0) 8192 (t .1);
-        long = eqb-true (length b) (8 + word b 0 + 2048 * word b 0) (t .2);
-        marks = λ k l. known-at b (word b 0) k (t .3) l;
-      }, t .4)
+      let t = passed (leb 8 (length b)) (eqb (word b 4) 2048) (leb (word b 0) 8192) (eqb (length b) (8 + word b 0 + 2048 * word b 0)) (marksKnown b (word b 0)) (word b 0) n e in (
+        record {
+          size = eqb-true (word b 4) 2048 (t .0);
+          few = leb-true (word b 0) 8192 (t .1);
+          long = eqb-true (length b) (8 + word b 0 + 2048 * word b 0) (t .2);
+          marks = λ k l. known-at b (word b 0) k (t .3) l;
+        },
+        t .4,
+      )
 
   pub formed-opened : Formed b → opened b ≡ Ok (word b 0)
   unfolding opened
   formed-opened f =
-      rw (le-leb 8 (length b) (let l = f .long in omega arith), eq-eqb (word b 4) 2048 (f .size), le-leb (word b 0) 8192 (f .few),
-        eq-eqb (length b) (8 + word b 0 + 2048 * word b 0) (f .long), known-from b (word b 0) (f .marks))
+      rw (
+        le-leb 8 (length b) (let l = f .long in omega arith),
+        eq-eqb (word b 4) 2048 (f .size),
+        le-leb (word b 0) 8192 (f .few),
+        eq-eqb (length b) (8 + word b 0 + 2048 * word b 0) (f .long),
+        known-from b (word b 0) (f .marks),
+      )
 
   pub formed-slots : Formed b → slotsIn b ≡ word b 0
   formed-slots f = ap slotsOf (formed-opened f)
@@ -84,13 +91,15 @@ kept-formed n at b t w h m f =
     let size = elsewhere .word-other n at 4 b t w (inl (omega arith)) in
     let l = w .long in
     let lb = f .long in
-    let fb = f .few in
-    (record {
-      size = size ∙ f .size;
-      few = omega arith;
-      long = omega arith;
-      marks = λ k q. m k (omega arith);
-    }, slots)
+    let fb = f .few in (
+      record {
+        size = size ∙ f .size;
+        few = omega arith;
+        long = omega arith;
+        marks = λ k q. m k (omega arith);
+      },
+      slots,
+    )
 
 -- A mark put.
 module _ (b : List ℕ) (k v : ℕ) where
@@ -102,10 +111,11 @@ module _ (b : List ℕ) (k v : ℕ) where
 
   marks-known : Formed b → k < word b 0 → v < 3 → (j : ℕ) → j < word b 0 → markOf (set b (8 + k) v) j < 3
   marks-known f h l j q =
-      elim (cases-eq j k)
-        [ inl e ↦ let s = mark-same (let lb = f .long in omega arith) in
+      elim (cases-eq j k) [
+        | inl e ↦ let s = mark-same (let lb = f .long in omega arith) in
             let g : markOf (set b (8 + k) v) j ≡ v = ap (markOf (set b (8 + k) v)) e ∙ s in omega arith
-        | inr e ↦ let s = mark-other j e in let g = f .marks j q in omega arith ]
+        | inr e ↦ let s = mark-other j e in let g = f .marks j q in omega arith
+      ]
 
   pub mark-formed : Formed b → k < word b 0 → v < 3 → Formed (set b (8 + k) v) × (word (set b (8 + k) v) 0 ≡ word b 0)
   mark-formed f h l = kept-formed 1 (8 + k) b (set b (8 + k) v) (laws .beside .set-within b (8 + k) v) (omega arith) (marks-known f h l) f
@@ -116,4 +126,4 @@ pub page-formed : (b : List ℕ) (at : ℕ) (p : List ℕ) → Formed b → 8 + 
 page-formed b at p f h l e =
     let w = laws .beside .page-within b at p l e in
     kept-formed 2048 at b (putPage b at p) w (omega arith)
-      (λ k q. let s = w .kept (8 + k) (inl (omega arith)) in let g = f .marks k q in omega arith) f
+    (λ k q. let s = w .kept (8 + k) (inl (omega arith)) in let g = f .marks k q in omega arith) f

@@ -38,9 +38,10 @@ pub known-at : (b : List ℕ) (n k : ℕ) → marksKnown b n ≡ true → k < n 
 known-at b zero k h l = absurd (omega arith)
 known-at b (suc n) k h l =
     let t = both-true (ltb (markOf b n) 3) (marksKnown b n) (sym (known-step b n) ∙ h) in
-    elim (cases-lt k n)
-      [ inl q ↦ known-at b n k (t .1) q
-      | inr q ↦ let e : k ≡ n = omega arith in let g = ltb-true (markOf b n) 3 (t .0) in rw e g ]
+    elim (cases-lt k n) [
+      | inl q ↦ known-at b n k (t .1) q
+      | inr q ↦ let e : k ≡ n = omega arith in let g = ltb-true (markOf b n) 3 (t .0) in rw e g
+    ]
 
 pub known-from : (b : List ℕ) (n : ℕ) → ((k : ℕ) → k < n → markOf b k < 3) → marksKnown b n ≡ true
 known-from b zero h = known-none b
@@ -64,9 +65,10 @@ found b at x e = let t = some-picked (leb (at + 4) (length b)) x (word b at) e i
 
 missing : (b : List ℕ) (at : ℕ) → None ≡ wordAt b at → length b < at + 4
 missing b at e =
-    elim (cases-lt (length b) (at + 4))
-      [ inl l ↦ l
-      | inr l ↦ absurd (both-ways (leb (at + 4) (length b)) (none-picked (leb (at + 4) (length b)) (word b at) e) (le-leb (at + 4) (length b) l)) ]
+    elim (cases-lt (length b) (at + 4)) [
+      | inl l ↦ l
+      | inr l ↦ absurd (both-ways (leb (at + 4) (length b)) (none-picked (leb (at + 4) (length b)) (word b at) e) (le-leb (at + 4) (length b) l))
+    ]
 
 -- The tests of opening in their order, on what the code has read.
 pub short : (b : List ℕ) → None ≡ wordAt b 4 → Err TooShort ≡ opened b
@@ -117,4 +119,4 @@ module _ (b : List ℕ) (size slots : ℕ) (read-size : Some size ≡ wordAt b 4
       → (t : Bool) → t ≡ marksKnown b slots → cond t (Ok slots) (Err UnknownMark) ≡ opened b
   last-test h n l t m =
       sym (by-marks h n l ∙ ap (λ w. cond (marksKnown b w) (Ok w) (Err UnknownMark)) (sym slots-is)
-        ∙ ap (λ x. cond x (Ok slots) (Err UnknownMark)) (sym m))
+      ∙ ap (λ x. cond x (Ok slots) (Err UnknownMark)) (sym m))

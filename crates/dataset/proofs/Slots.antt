@@ -91,14 +91,16 @@ module _ (b : List ℕ) (k : ℕ) (p : List ℕ) (h : k < slotsIn b) (e : length
   bad-kept : (j : ℕ) → setRules .bad b k ≡ false → setRules .bad (setRules .write b k p) j ≡ setRules .bad b j
   bad-kept j u =
       ap (λ n. ltb j n && eqb (markOf (setRules .write b k p) j) 2) write-slots
-      ∙ elim (cases-lt j (slotsIn b))
-        [ inl l ↦ elim (cases-eq j k)
-            [ inl q ↦ ap (λ i. ltb i (slotsIn b) && eqb (markOf (setRules .write b k p) i) 2) q
-                ∙ ap (λ n. ltb k (slotsIn b) && eqb n 2) mark-over-same
-                ∙ ap (λ t. t && false) (lt-ltb k (slotsIn b) h) ∙ sym u ∙ ap (setRules .bad b) (sym q)
-            | inr q ↦ ap (λ n. ltb j (slotsIn b) && eqb n 2) (mark-over-other j l q) ]
+      ∙ elim (cases-lt j (slotsIn b)) [
+        | inl l ↦ elim (cases-eq j k) [
+          | inl q ↦ ap (λ i. ltb i (slotsIn b) && eqb (markOf (setRules .write b k p) i) 2) q
+              ∙ ap (λ n. ltb k (slotsIn b) && eqb n 2) mark-over-same
+              ∙ ap (λ t. t && false) (lt-ltb k (slotsIn b) h) ∙ sym u ∙ ap (setRules .bad b) (sym q)
+          | inr q ↦ ap (λ n. ltb j (slotsIn b) && eqb n 2) (mark-over-other j l q)
+        ]
         | inr l ↦ ap (λ t. t && eqb (markOf (setRules .write b k p) j) 2) (le-ltb j (slotsIn b) l)
-            ∙ sym (ap (λ t. t && eqb (markOf b j) 2) (le-ltb j (slotsIn b) l)) ]
+            ∙ sym (ap (λ t. t && eqb (markOf b j) 2) (le-ltb j (slotsIn b) l))
+      ]
 
   page-over-other : (j : ℕ) → j < slotsIn b → (j ≡ k → ⊥) → page (setRules .write b k p) (placeOf b j) ≡ page b (placeOf b j)
   page-over-other j l ne =
@@ -110,14 +112,15 @@ module _ (b : List ℕ) (k : ℕ) (p : List ℕ) (h : k < slotsIn b) (e : length
   slot-over : (j : ℕ) → j < slotsIn b → setRules .slot (setRules .write b k p) j ≡ cond (eqb j k) p (setRules .slot b j)
   slot-over j l =
       ap (λ n. cond (eqb (markOf (setRules .write b k p) j) 1) (page (setRules .write b k p) (8 + n + 2048 * j)) zeros) write-slots
-      ∙ elim (cases-eq j k)
-        [ inl q ↦ ap (λ i. cond (eqb (markOf (setRules .write b k p) i) 1) (page (setRules .write b k p) (placeOf b i)) zeros) q
+      ∙ elim (cases-eq j k) [
+        | inl q ↦ ap (λ i. cond (eqb (markOf (setRules .write b k p) i) 1) (page (setRules .write b k p) (placeOf b i)) zeros) q
             ∙ ap (λ n. cond (eqb n 1) (page (setRules .write b k p) (placeOf b k)) zeros) mark-over-same
             ∙ laws .same .page-same (set b (8 + k) 1) (placeOf b k) p place-within e
             ∙ sym (ap (λ t. cond t p (setRules .slot b j)) (eq-eqb j k q))
         | inr q ↦ ap (λ n. cond (eqb n 1) (page (setRules .write b k p) (placeOf b j)) zeros) (mark-over-other j l q)
             ∙ ap (λ x. cond (eqb (markOf b j) 1) x zeros) (page-over-other j l q)
-            ∙ sym (ap (λ t. cond t p (setRules .slot b j)) (ne-eqb j k q)) ]
+            ∙ sym (ap (λ t. cond t p (setRules .slot b j)) (ne-eqb j k q))
+      ]
 
 slot-long : (b : List ℕ) (k : ℕ) (t : Bool) → k < slotsIn b → length (cond t (page b (placeOf b k)) zeros) ≡ 2048
 slot-long b k true h = laws .pages .page-long b (placeOf b k) (within b k h)
@@ -151,5 +154,5 @@ pub stored : (v : Vec ℕ Global) (k at n : ℕ) (p xs part : List ℕ) → k < 
 stored v k at n p xs part h a e f g q =
     let m = set (v .items) (8 + k) 1 in
     let same : putMid at n xs part ≡ setRules .write (v .items) k p =
-      ap (λ l. putMid at n l part) g ∙ put-mid m part at n e ∙ ap (putPage m at) q ∙ ap (λ i. putPage m i p) a in
+    ap (λ l. putMid at n l part) g ∙ put-mid m part at n e ∙ ap (putPage m at) q ∙ ap (λ i. putPage m i p) a in
     refilled-is (with-item v (8 + k) 1) (putMid at n xs part) (ap length same ∙ write-long (v .items) k p h f ∙ sym (v .ok .0)) ∙ same

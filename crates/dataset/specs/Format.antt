@@ -36,14 +36,14 @@ marksKnown bytes (suc n) = cond (ltb (markOf bytes n) 3) (marksKnown bytes n) fa
 unfoldable pub opened : List ℕ → Result ℕ OpenRefusal
 opened bytes =
     cond (leb 8 (length bytes))
-      (cond (eqb (word bytes 4) 2048)
-        (cond (leb (word bytes 0) 8192)
-          (cond (eqb (length bytes) (8 + word bytes 0 + 2048 * word bytes 0))
-            (cond (marksKnown bytes (word bytes 0)) (Ok (word bytes 0)) (Err UnknownMark))
-            (Err OtherLength))
-          (Err TooManySlots))
-        (Err OtherPageSize))
-      (Err TooShort)
+    (cond (eqb (word bytes 4) 2048)
+    (cond (leb (word bytes 0) 8192)
+    (cond (eqb (length bytes) (8 + word bytes 0 + 2048 * word bytes 0))
+    (cond (marksKnown bytes (word bytes 0)) (Ok (word bytes 0)) (Err UnknownMark))
+    (Err OtherLength))
+    (Err TooManySlots))
+    (Err OtherPageSize))
+    (Err TooShort)
 
 -- Whether an area is a page data set.
 abbrev pub isDataSet : List ℕ → Bool

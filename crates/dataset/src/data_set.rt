@@ -27,6 +27,7 @@ const FRONT: usize = 8;
 
 /// The marks of a slot that was written, and of a bad one. A blank slot has mark 0.
 const WRITTEN: u8 = 1;
+
 const BAD: u8 = 2;
 
 /// An area that was opened. Where opening refused it, it is kept as it is and the store has no slots.
@@ -61,7 +62,10 @@ impl DataSet {
         };
         put_word(&mut area, 0, slots);
         put_word(&mut area, 4, PAGE as u32);
-        Ok(DataSet { area, slots: Ok(slots) })
+        Ok(DataSet {
+            area,
+            slots: Ok(slots),
+        })
     }
 
     /// Why the area was refused, if it was.
@@ -171,7 +175,12 @@ fn marks_known(area: &[u8], count: usize) -> bool
 fn refused(refusal: StoreRefusal, slot: u32) -> Fault
     ensures { λ r. ⌜ r ≡ setFault refusal slot ⌝ }
 {
-    Fault { refusal, kind: DataSetStore::KIND, slot, cause: None }
+    Fault {
+        refusal,
+        kind: DataSetStore::KIND,
+        slot,
+        cause: None,
+    }
 }
 
 pub impl PageStore for DataSet as DataSetStore {

@@ -16,7 +16,7 @@ use Rattle.pages.specs.declared.fault.StoreRefusal.{StoreRefusal}
 use Rattle.pages.specs.declared.fault.StoreRefusal.the-variants.{WrongLength, NoSuchSlot, BadSlot}
 use Rattle.pages.specs.Store.{Rules, refusalAt, told, readInto, written, Usable}
 
-some-none : {X : Type 0} (x : X) → _≡_ {A = Option X} (Some x) None → ⊥
+pub some-none : {X : Type 0} (x : X) → _≡_ {A = Option X} (Some x) None → ⊥
 some-none x e = let z : _≡_ {A = ℕ} 0 1 = cc in omega arith
 
 ok-err : {X Y : Type 0} (x : X) (y : Y) → _≡_ {A = Result X Y} (Ok x) (Err y) → ⊥

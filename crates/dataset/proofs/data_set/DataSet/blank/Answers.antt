@@ -9,12 +9,12 @@ pub ghost-result : need.ghost-result
 ghost-result c =
     let few : c .args .slots ≤ 8192 = c .if-slots-gt-MOST-SLOTS .left in
     let is = laid (c .in-Ok .area) (c .args .slots) (c .deref-mut .result .now) (c .put-word .last .storage) (c .deref-mut-2 .result .now) (c .put-word-2 .last .storage)
-      (c .in-Ok .ensures tt .exact (λ y q. q)) (c .deref-mut .ensures .value) (c .put-word .ensures .after) (c .deref-mut-2 .ensures .value) (c .put-word-2 .ensures .after) in
+    (c .in-Ok .ensures tt .exact (λ y q. q)) (c .deref-mut .ensures .value) (c .put-word .ensures .after) (c .deref-mut-2 .ensures .value) (c .put-word-2 .ensures .after) in
     (sym (ap opened is ∙ blank-set (c .args .slots) few .accepted), tt)
 
 pub returns : need.returns
 returns c =
     let few : c .args .slots ≤ 8192 = c .if-slots-gt-MOST-SLOTS .left in
     let is = laid (c .in-Ok .area) (c .args .slots) (c .deref-mut .result .now) (c .put-word .last .storage) (c .deref-mut-2 .result .now) (c .put-word-2 .last .storage)
-      (c .in-Ok .ensures tt .exact (λ y q. q)) (c .deref-mut .ensures .value) (c .put-word .ensures .after) (c .deref-mut-2 .ensures .value) (c .put-word-2 .ensures .after) in
+    (c .in-Ok .ensures tt .exact (λ y q. q)) (c .deref-mut .ensures .value) (c .put-word .ensures .after) (c .deref-mut-2 .ensures .value) (c .put-word-2 .ensures .after) in
     record { cases = (few, is); slots = subst (Blank (c .args .slots)) (sym is) (blank-set (c .args .slots) few) }

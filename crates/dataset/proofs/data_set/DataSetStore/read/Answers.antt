@@ -63,8 +63,8 @@ returns c =
     let mark = getD-read b (8 + k) (c .index .result .now) (mark-within b k (usable setRules b k ok .0)) (c .index .ensures) 0 in
     let n : at + 2048 - at ≡ 2048 = omega arith in
     let copied : c .copy-from-slice .last .self ≡ page b (placeOf b k) =
-      c .copy-from-slice .ensures .after ∙ part (c .deref .result .now) at (at + 2048 - at) n
-      ∙ ap (λ l. page l at) (c .deref .ensures .value) ∙ ap (page b) (c .place-at .ensures) in
+    c .copy-from-slice .ensures .after ∙ part (c .deref .result .now) at (at + 2048 - at) n
+    ∙ ap (λ l. page l at) (c .deref .ensures .value) ∙ ap (page b) (c .place-at .ensures) in
     record {
       answer = told-done setRules b k buffer e ok;
       after = read-done setRules b k buffer e ok _ (read-written b k (c .index .result .now) (c .copy-from-slice .last .self) mark (c .if-index-ne-WRITTEN .left) copied);
