@@ -53,10 +53,17 @@ plain-lawful = record {
   write-slot = λ m k p j g u v e. slot-over m k p (u .0) e j (v .0);
 }
 
--- What a copy into a slot's part of the area leaves of the Vec.
-pub stored : (v : Vec ℕ Global) (k n : ℕ) (p xs part : List ℕ) → k < slotsOf (length (v .items)) → n ≡ 2048 → length p ≡ 2048
-    → xs ≡ v .items → part ≡ p → refilled v (putMid (2048 * k) n xs part) .items ≡ putPage (v .items) (2048 * k) p
-stored v k n p xs part h e f g q =
-    let same : putMid (2048 * k) n xs part ≡ putPage (v .items) (2048 * k) p =
-    ap (λ l. putMid (2048 * k) n l part) g ∙ put-mid (v .items) part (2048 * k) n e ∙ ap (putPage (v .items) (2048 * k)) q in
-    refilled-is v (putMid (2048 * k) n xs part) (ap length same ∙ touched (v .items) k p h f .long ∙ sym (v .ok .0)) ∙ same
+-- What the code reads: the part of the area at the slot's place, where at + 2,048 - at is the length of the part.
+pub copied : (m xs l : List ℕ) (k at : ℕ) → at ≡ 2048 * k → xs ≡ m → l ≡ take (at + 2048 - at) (drop at xs) → l ≡ page m (2048 * k)
+copied m xs l k at a g e =
+    e ∙ part xs at (at + 2048 - at) (let n : at + 2048 - at ≡ 2048 = omega arith in n) ∙ ap (λ s. page s at) g ∙ ap (page m) a
+
+-- What a copy into that part leaves of the Vec.
+pub stored : (v : Vec ℕ Global) (k at : ℕ) (p xs part : List ℕ) → k < slotsOf (length (v .items)) → length p ≡ 2048
+    → at ≡ 2048 * k → xs ≡ v .items → part ≡ p → refilled v (putMid at (at + 2048 - at) xs part) .items ≡ putPage (v .items) (2048 * k) p
+stored v k at p xs part h f a g q =
+    let n : at + 2048 - at ≡ 2048 = omega arith in
+    let same : putMid at (at + 2048 - at) xs part ≡ putPage (v .items) (2048 * k) p =
+      ap (λ l. putMid at (at + 2048 - at) l part) g ∙ put-mid (v .items) part at (at + 2048 - at) n
+      ∙ ap (putPage (v .items) at) q ∙ ap (λ i. putPage (v .items) i p) a in
+    refilled-is v (putMid at (at + 2048 - at) xs part) (ap length same ∙ touched (v .items) k p h f .long ∙ sym (v .ok .0)) ∙ same

@@ -2,8 +2,9 @@
 //! slot 8,191, belong to no slot and are never altered.
 ghost use mathlib.Core.Path.{_≡_};
 ghost use mathlib.Core.List.{List};
-ghost use Prim.Native.Nat.{ℕ};
+ghost use Prim.Native.Nat.{ℕ, _*_};
 ghost use Rattle.std.specs.Of.Vec.{vec-items};
+ghost use Rattle.pages.specs.Store.{refusalAt, told};
 ghost use Rattle.area.specs.Plain.{plainRules, plainFault};
 use pages::fault::Fault;
 use pages::fault::StoreRefusal;
@@ -31,6 +32,26 @@ impl PlainArea {
     {
         self.area
     }
+
+    /// The first refusal that holds for a slot and a buffer of so many bytes.
+    fn check(&self, slot: u32, length: usize) -> Result<(), Fault>
+        ensures { λ r. ⌜ r ≡ told plainRules (vec-items (now (self .entry) .area)) slot (refusalAt plainRules (vec-items (now (self .entry) .area)) slot length) ⌝ }
+    {
+        if length != PAGE {
+            return Err(refused(StoreRefusal::WrongLength, slot));
+        }
+        if slot >= self.count() {
+            return Err(refused(StoreRefusal::NoSuchSlot, slot));
+        }
+        Ok(())
+    }
+}
+
+/// Where the bytes of a slot begin.
+fn place(slot: u32) -> usize
+    ensures { λ r. ⌜ r ≡ 2048 * slot ⌝ }
+{
+    PAGE * slot as usize
 }
 
 /// A fault of this kind of store.
@@ -65,28 +86,19 @@ pub impl PageStore for PlainArea as PlainAreaStore {
     }
 
     fn good(&self, slot: u32) -> Result<(), Fault> {
-        if slot >= self.count() {
-            return Err(refused(StoreRefusal::NoSuchSlot, slot));
-        }
-        Ok(())
+        self.check(slot, PAGE)
     }
 
     fn read(&self, slot: u32, page: &mut [u8]) -> Result<(), Fault> {
-        if page.len() != PAGE {
-            return Err(refused(StoreRefusal::WrongLength, slot));
-        }
-        self.good(slot)?;
-        let at = PAGE * slot as usize;
+        self.check(slot, page.len())?;
+        let at = place(slot);
         page.copy_from_slice(&self.area[at..at + PAGE]);
         Ok(())
     }
 
     fn write(&mut self, slot: u32, page: &[u8]) -> Result<(), Fault> {
-        if page.len() != PAGE {
-            return Err(refused(StoreRefusal::WrongLength, slot));
-        }
-        self.good(slot)?;
-        let at = PAGE * slot as usize;
+        self.check(slot, page.len())?;
+        let at = place(slot);
         let part = &mut self.area[at..at + PAGE];
         part.copy_from_slice(page);
         Ok(())

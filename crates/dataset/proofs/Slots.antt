@@ -6,20 +6,24 @@ use mathlib.Core.List.{List}
 use Prim.Native.Nat.{ℕ, _+_, _-_, _*_, _≤_, _<_}
 use native.Mathlib.Omega.{arith}
 use lib.Dec.{eqb, ltb}
-use lib.ListN.{length, getD, set}
+use lib.ListN.{length, getD, set, take, drop, replicate}
 use borrow.Rule.Slice.PartMut.{putMid}
 use Rattle.std.specs.Changed.{refilled, with-item}
 use Rattle.std.specs.declared.alloc.Global.{Global}
+use Rattle.std.specs.declared.option.Option.{Option}
+use Rattle.std.specs.declared.option.Option.the-variants.{Some, None}
 use Rattle.std.specs.declared.result.Result.the-variants.{Ok, Err}
 use Rattle.std.specs.declared.vec.Vec.{Vec}
 use Rattle.std.proofs.shelf.Lists.{length-set, refilled-is}
 use Rattle.std.proofs.shelf.Tests.{cases-eq, cases-lt, eq-eqb, ne-eqb, lt-ltb, le-ltb}
-use Rattle.pages.specs.Store.{Rules, Lawful, Usable}
+use Rattle.pages.specs.declared.fault.StoreRefusal.{StoreRefusal}
+use Rattle.pages.specs.Store.{Rules, Lawful, Usable, refusalAt}
+use Rattle.pages.proofs.Refusals.{none-usable}
 use Rattle.storage.specs.Bytes.{word, page, putPage, zeros}
 use Rattle.storage.specs.Laws.{Within}
 use Rattle.storage.proofs.Over.{laws, elsewhere}
-use Rattle.storage.proofs.Parted.{put-mid}
-use Rattle.dataset.specs.Format.{markOf, opened, slotsIn, placeOf, setRules}
+use Rattle.storage.proofs.Parted.{put-mid, part, cleared}
+use Rattle.dataset.specs.Format.{markOf, opened, slotsIn, placeOf, setRules, checked}
 use Rattle.dataset.proofs.Formed.{Formed, formed-opened, formed-slots, slot-formed, slots-few, mark-same, mark-other, mark-formed, page-formed}
 
 -- Two slots have no byte in common.
@@ -138,21 +142,42 @@ set-lawful = record {
   write-slot = λ b k p j g u v e. slot-over b k p (u .0) e j (v .0);
 }
 
--- What a read copies out, by the mark that the code has seen.
-pub read-blank : (b : List ℕ) (k mark : ℕ) (l : List ℕ) → mark ≡ markOf b k → (mark ≡ 1 → ⊥) → l ≡ zeros → l ≡ setRules .slot b k
-read-blank b k mark l m ne e =
-    e ∙ sym (ap (λ t. cond t (page b (placeOf b k)) zeros) (ne-eqb (markOf b k) 1 (λ q. ne (m ∙ q))))
+-- What the test of a slot has found, at a buffer of n bytes.
+mark-found : (b : List ℕ) (k mark : ℕ) (o : Option StoreRefusal) → Ok mark ≡ checked b k o → (o ≡ None) × (mark ≡ markOf b k)
+mark-found b k mark None e = (refl, cc)
+mark-found b k mark (Some why) e = absurd (let z : _≡_ {A = ℕ} 0 1 = cc in omega arith)
 
-pub read-written : (b : List ℕ) (k mark : ℕ) (l : List ℕ) → mark ≡ markOf b k → mark ≡ 1 → l ≡ page b (placeOf b k) → l ≡ setRules .slot b k
-read-written b k mark l m q e =
-    e ∙ sym (ap (λ t. cond t (page b (placeOf b k)) zeros) (eq-eqb (markOf b k) 1 (sym m ∙ q)))
+module _ (b : List ℕ) (k n mark : ℕ) (ok : Ok mark ≡ checked b k (refusalAt setRules b k n)) where
+  pub unrefused : refusalAt setRules b k n ≡ None
+  unrefused = mark-found b k mark (refusalAt setRules b k n) ok .0
+
+  mark-is : mark ≡ markOf b k
+  mark-is = mark-found b k mark (refusalAt setRules b k n) ok .1
+
+  pub there : k < slotsIn b
+  there = none-usable setRules b k n unrefused .1 .0
+
+  pub long : n ≡ 2048
+  long = none-usable setRules b k n unrefused .0
+
+  -- what a read copies out, by the mark
+  pub read-blank : (l : List ℕ) → (mark ≡ 1 → ⊥) → l ≡ replicate n 0 → l ≡ setRules .slot b k
+  read-blank l ne e =
+      cleared l n long e ∙ sym (ap (λ t. cond t (page b (placeOf b k)) zeros) (ne-eqb (markOf b k) 1 (λ q. ne (mark-is ∙ q))))
+
+  pub read-written : (l xs : List ℕ) (at : ℕ) → mark ≡ 1 → at ≡ placeOf b k → xs ≡ b → l ≡ take (at + 2048 - at) (drop at xs)
+      → l ≡ setRules .slot b k
+  read-written l xs at q a g e =
+      e ∙ part xs at (at + 2048 - at) (let m : at + 2048 - at ≡ 2048 = omega arith in m) ∙ ap (λ s. page s at) g ∙ ap (page b) a
+      ∙ sym (ap (λ t. cond t (page b (placeOf b k)) zeros) (eq-eqb (markOf b k) 1 (sym mark-is ∙ q)))
 
 -- What is left of the Vec after the mark was put and the page copied into its part.
-pub stored : (v : Vec ℕ Global) (k at n : ℕ) (p xs part : List ℕ) → k < slotsIn (v .items) → at ≡ placeOf (v .items) k → n ≡ 2048
-    → length p ≡ 2048 → xs ≡ set (v .items) (8 + k) 1 → part ≡ p
-    → refilled (with-item v (8 + k) 1) (putMid at n xs part) .items ≡ setRules .write (v .items) k p
-stored v k at n p xs part h a e f g q =
+pub stored : (v : Vec ℕ Global) (k at : ℕ) (p xs part : List ℕ) → k < slotsIn (v .items) → length p ≡ 2048 → at ≡ placeOf (v .items) k
+    → xs ≡ set (v .items) (8 + k) 1 → part ≡ p
+    → refilled (with-item v (8 + k) 1) (putMid at (at + 2048 - at) xs part) .items ≡ setRules .write (v .items) k p
+stored v k at p xs part h f a g q =
     let m = set (v .items) (8 + k) 1 in
-    let same : putMid at n xs part ≡ setRules .write (v .items) k p =
-    ap (λ l. putMid at n l part) g ∙ put-mid m part at n e ∙ ap (putPage m at) q ∙ ap (λ i. putPage m i p) a in
-    refilled-is (with-item v (8 + k) 1) (putMid at n xs part) (ap length same ∙ write-long (v .items) k p h f ∙ sym (v .ok .0)) ∙ same
+    let n : at + 2048 - at ≡ 2048 = omega arith in
+    let same : putMid at (at + 2048 - at) xs part ≡ setRules .write (v .items) k p =
+      ap (λ l. putMid at (at + 2048 - at) l part) g ∙ put-mid m part at (at + 2048 - at) n ∙ ap (putPage m at) q ∙ ap (λ i. putPage m i p) a in
+    refilled-is (with-item v (8 + k) 1) (putMid at (at + 2048 - at) xs part) (ap length same ∙ write-long (v .items) k p h f ∙ sym (v .ok .0)) ∙ same

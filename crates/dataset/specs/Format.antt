@@ -81,6 +81,11 @@ setRules = record {
   fault = λ bytes why k. setFault why k;
 }
 
+-- What the test of a slot finds: the mark of one that can be read and written, or the fault.
+abbrev pub checked : List ℕ → ℕ → Option StoreRefusal → Result ℕ Fault
+checked bytes k None = Ok (markOf bytes k)
+checked bytes k (Some why) = Err (setFault why k)
+
 -- The bytes of a data set of n blank slots.
 unfoldable pub blankSet : ℕ → List ℕ
 blankSet n = putWord (putWord (replicate (8 + n + 2048 * n) 0) 0 n) 4 2048

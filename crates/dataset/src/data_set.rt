@@ -9,7 +9,8 @@ ghost use Rattle.std.specs.declared.option.Option.the-variants.{Some, None};
 ghost use Rattle.std.specs.Of.Vec.{vec-items};
 ghost use Rattle.std.specs.Results.{Cases};
 ghost use Rattle.std.specs.Vec.{made};
-ghost use Rattle.dataset.specs.Format.{Blank, badAnswer, blankRefused, blankSet, markAnswer, markOf, marked, marksKnown, opened, placeOf, setFault, setRules, slotsIn, whyNot};
+ghost use Rattle.pages.specs.Store.{refusalAt};
+ghost use Rattle.dataset.specs.Format.{Blank, badAnswer, blankRefused, blankSet, checked, markAnswer, markOf, marked, marksKnown, opened, placeOf, setFault, setRules, slotsIn, whyNot};
 use crate::refusal::BlankRefusal;
 use crate::refusal::MarkRefusal;
 use crate::refusal::OpenRefusal;
@@ -44,7 +45,7 @@ impl DataSet {
         ensures kept { λ r. ⌜ r .area ≡ area ⌝ }
         ensures checked { λ r. ⌜ r .slots ≡ opened (vec-items area) ⌝ }
     {
-        let slots = check(&area);
+        let slots = inspect(&area);
         DataSet { area, slots }
     }
 
@@ -97,7 +98,7 @@ impl DataSet {
             return Err(MarkRefusal::NoSuchSlot);
         }
         self.area[FRONT + slot as usize] = mark;
-        self.slots = check(&self.area);
+        self.slots = inspect(&self.area);
         match self.slots {
             Ok(_) => Ok(()),
             Err(why) => Err(MarkRefusal::NotDataSet(why)),
@@ -117,6 +118,22 @@ impl DataSet {
         Ok(())
     }
 
+    /// The mark of a slot that can be read and written with a buffer of so many bytes, or the first refusal that holds.
+    fn check(&self, slot: u32, length: usize) -> Result<u8, Fault>
+        ensures { λ r. ⌜ r ≡ checked (vec-items (now (self .entry) .area)) slot (refusalAt setRules (vec-items (now (self .entry) .area)) slot length) ⌝ }
+    {
+        if length != PAGE {
+            return Err(refused(StoreRefusal::WrongLength, slot));
+        }
+        let Some(mark) = self.mark(slot) else {
+            return Err(refused(StoreRefusal::NoSuchSlot, slot));
+        };
+        if mark == BAD {
+            return Err(refused(StoreRefusal::BadSlot, slot));
+        }
+        Ok(mark)
+    }
+
     /// Where the bytes of a slot begin.
     fn place(&self, slot: u32) -> usize
         ensures { λ r. ⌜ r ≡ placeOf (vec-items (now (self .entry) .area)) slot ⌝ }
@@ -133,7 +150,7 @@ impl DataSet {
 }
 
 /// The number of slots of an area, or why it is no page data set.
-fn check(area: &[u8]) -> Result<u32, OpenRefusal>
+fn inspect(area: &[u8]) -> Result<u32, OpenRefusal>
     ensures { λ r. ⌜ r ≡ opened (now (area .entry)) ⌝ }
 {
     let Some(size) = word(area, 4) else {
@@ -206,19 +223,13 @@ pub impl PageStore for DataSet as DataSetStore {
     }
 
     fn good(&self, slot: u32) -> Result<(), Fault> {
-        match self.mark(slot) {
-            None => Err(refused(StoreRefusal::NoSuchSlot, slot)),
-            Some(BAD) => Err(refused(StoreRefusal::BadSlot, slot)),
-            Some(_) => Ok(()),
-        }
+        self.check(slot, PAGE)?;
+        Ok(())
     }
 
     fn read(&self, slot: u32, page: &mut [u8]) -> Result<(), Fault> {
-        if page.len() != PAGE {
-            return Err(refused(StoreRefusal::WrongLength, slot));
-        }
-        self.good(slot)?;
-        if self.area[FRONT + slot as usize] != WRITTEN {
+        let mark = self.check(slot, page.len())?;
+        if mark != WRITTEN {
             page.fill(0);
             return Ok(());
         }
@@ -228,10 +239,7 @@ pub impl PageStore for DataSet as DataSetStore {
     }
 
     fn write(&mut self, slot: u32, page: &[u8]) -> Result<(), Fault> {
-        if page.len() != PAGE {
-            return Err(refused(StoreRefusal::WrongLength, slot));
-        }
-        self.good(slot)?;
+        self.check(slot, page.len())?;
         let at = self.place(slot);
         self.area[FRONT + slot as usize] = WRITTEN;
         let part = &mut self.area[at..at + PAGE];

@@ -50,25 +50,17 @@ module _ {M : Type 0} (r : Rules M) (m : M) (k n : ℕ) where
       (eqb-true n 2048 (t .0), (ltb-true k (r .count m) (t .1), t .2))
 
 -- A call is answered only where nothing refuses it.
-answered : {M : Type 0} (r : Rules M) (m : M) (k : ℕ) (o : Option StoreRefusal) → Ok tt ≡ told r m k o → o ≡ None
+pub answered : {M : Type 0} (r : Rules M) (m : M) (k : ℕ) (o : Option StoreRefusal) → Ok tt ≡ told r m k o → o ≡ None
 answered r m k None e = refl
 answered r m k (Some why) e = absurd (ok-err tt (r .fault m why k) e)
 
--- After `good` has answered.
-pub usable : {M : Type 0} (r : Rules M) (m : M) (k : ℕ) → Ok tt ≡ told r m k (refusalAt r m k 2048) → Usable r m k
-usable r m k ok = none-usable r m k 2048 (answered r m k (refusalAt r m k 2048) ok) .1
-
--- And at a buffer of 2,048 bytes.
-module _ {M : Type 0} (r : Rules M) (m : M) (k : ℕ) (buffer : List ℕ)
-    (e : length buffer ≡ 2048) (ok : Ok tt ≡ told r m k (refusalAt r m k 2048)) where
-  none : None ≡ refusalAt r m k (length buffer)
-  none = sym (unrefused r m k (length buffer) e (usable r m k ok))
-
+-- What a call answers and leaves that nothing refuses.
+module _ {M : Type 0} (r : Rules M) (m : M) (k : ℕ) (buffer : List ℕ) (none : refusalAt r m k (length buffer) ≡ None) where
   pub told-done : Ok tt ≡ told r m k (refusalAt r m k (length buffer))
-  told-done = ap (told r m k) none
+  told-done = ap (told r m k) (sym none)
 
   pub read-done : (l : List ℕ) → l ≡ r .slot m k → l ≡ readInto r m k buffer (refusalAt r m k (length buffer))
-  read-done l h = h ∙ ap (readInto r m k buffer) none
+  read-done l h = h ∙ ap (readInto r m k buffer) (sym none)
 
   pub write-done : (x : M) → x ≡ r .write m k buffer → x ≡ written r m k buffer (refusalAt r m k (length buffer))
-  write-done x h = h ∙ ap (written r m k buffer) none
+  write-done x h = h ∙ ap (written r m k buffer) (sym none)

@@ -1,7 +1,7 @@
 use mathlib.Core.Bool.{true, false}
 use native.Mathlib.Omega.{arith}
 use Rattle.dataset.proofs.Opening.{short, shorter, other-size, too-many, other-length, last-test}
-use Rattle.dataset.proofs.data_set.check.Needs as need
+use Rattle.dataset.proofs.data_set.inspect.Needs as need
 
 pub returns-in-rest : need.returns-in-rest
 returns-in-rest c = short (c .args .area .now) (c .in-rest .ensures tt)
