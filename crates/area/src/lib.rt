@@ -5,7 +5,7 @@ ghost use mathlib.Core.List.{List};
 ghost use Prim.Native.Nat.{ℕ, _*_};
 ghost use Rattle.std.specs.Of.Vec.{vec-items};
 ghost use Rattle.pages.specs.Store.{refusalAt, told};
-ghost use Rattle.area.specs.Plain.{plainRules, plainFault};
+ghost use Rattle.area.specs.Plain.{PlainLaws, plainFault, plainRules};
 use pages::fault::Fault;
 use pages::fault::StoreRefusal;
 use pages::store::MOST_SLOTS;
@@ -103,4 +103,13 @@ pub impl PageStore for PlainArea as PlainAreaStore {
         part.copy_from_slice(page);
         Ok(())
     }
+}
+
+/// The number of this kind of store. What a write touches is stated here as a theorem: it holds of the definitions that
+/// the contracts above cite.
+pub fn laws() -> u8
+    ensures number { λ r. ⌜ r ≡ 1 ⌝ }
+    ensures laws { λ _. ⌜ PlainLaws ⌝ }
+{
+    PlainAreaStore::KIND
 }

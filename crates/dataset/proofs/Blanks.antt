@@ -16,8 +16,8 @@ use Rattle.std.proofs.shelf.Tests.{lt-ltb, le-leb}
 use Rattle.storage.specs.Bytes.{fits, word, putWord, page, zeros}
 use Rattle.storage.specs.Laws.{Within}
 use Rattle.storage.proofs.Over.{laws, elsewhere}
-use Rattle.dataset.specs.Format.{markOf, opened, slotsOf, slotsIn, placeOf, setRules, blankSet, Blank}
-use Rattle.dataset.proofs.Formed.{Formed, formed-opened}
+use Rattle.dataset.specs.Format.{Formed, markOf, opened, slotsOf, slotsIn, placeOf, setRules, blankSet, Blank}
+use Rattle.dataset.proofs.Formed.{formed-opened}
 
 -- The area with the first number put, and with both.
 module _ (n : ℕ) (bare first both : List ℕ) (b : bare ≡ replicate (8 + n + 2048 * n) 0) (f : first ≡ putWord bare 0 n)

@@ -9,22 +9,16 @@ use lib.Dec.{eqb, ltb, leb}
 use lib.ListN.{length, getD, set}
 use Rattle.std.specs.declared.result.Result.{Result}
 use Rattle.std.specs.declared.result.Result.the-variants.{Ok, Err}
+use Rattle.std.specs.Results.{isOk}
 use Rattle.std.proofs.shelf.Lists.{getD-set-same, getD-set-other, length-set}
-use Rattle.std.proofs.shelf.Tests.{cases-eq, le-leb, leb-true, eq-eqb, eqb-true}
+use Rattle.std.proofs.shelf.Tests.{both-ways, cases-eq, le-leb, leb-true, eq-eqb, eqb-true}
 use Rattle.storage.specs.Bytes.{word, page, putPage}
 use Rattle.storage.specs.Laws.{Within}
 use Rattle.storage.proofs.Over.{laws, elsewhere}
 use Rattle.dataset.specs.declared.refusal.OpenRefusal.{OpenRefusal}
 use Rattle.dataset.specs.declared.refusal.OpenRefusal.the-variants.{TooShort, OtherPageSize, TooManySlots, OtherLength, UnknownMark}
-use Rattle.dataset.specs.Format.{markOf, marksKnown, opened, slotsOf, slotsIn}
+use Rattle.dataset.specs.Format.{Formed, isDataSet, markOf, marksKnown, opened, slotsOf, slotsIn}
 use Rattle.dataset.proofs.Opening.{known-at, known-from}
-
--- An area that opening accepts.
-pub record Formed (b : List ℕ) : Type 0 where
-  pub size : word b 4 ≡ 2048
-  pub few : word b 0 ≤ 8192
-  pub long : length b ≡ 8 + word b 0 + 2048 * word b 0
-  pub marks : (k : ℕ) → k < word b 0 → markOf b k < 3
 
 ok-err : (n : ℕ) (why : OpenRefusal) → _≡_ {A = Result ℕ OpenRefusal} (Err why) (Ok n) → ⊥
 ok-err n why e = let z : _≡_ {A = ℕ} 0 1 = cc in omega arith
@@ -64,6 +58,16 @@ module _ (b : List ℕ) where
         eq-eqb (length b) (8 + word b 0 + 2048 * word b 0) (f .long),
         known-from b (word b 0) (f .marks),
       )
+
+  data-set-of : (r : Result ℕ OpenRefusal) → opened b ≡ r → isOk r ≡ true → Formed b
+  data-set-of (Ok n) e t = opened-formed n e .0
+  data-set-of (Err why) e t = absurd (both-ways false refl t)
+
+  pub data-set-formed : isDataSet b ≡ true → Formed b
+  data-set-formed t = data-set-of (opened b) refl t
+
+  pub formed-data-set : Formed b → isDataSet b ≡ true
+  formed-data-set f = ap isOk (formed-opened f)
 
   pub formed-slots : Formed b → slotsIn b ≡ word b 0
   formed-slots f = ap slotsOf (formed-opened f)

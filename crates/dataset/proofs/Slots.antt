@@ -23,8 +23,9 @@ use Rattle.storage.specs.Bytes.{word, page, putPage, zeros}
 use Rattle.storage.specs.Laws.{Within}
 use Rattle.storage.proofs.Over.{laws, elsewhere}
 use Rattle.storage.proofs.Parted.{put-mid, part, cleared}
-use Rattle.dataset.specs.Format.{markOf, opened, slotsIn, placeOf, setRules, checked}
-use Rattle.dataset.proofs.Formed.{Formed, formed-opened, formed-slots, slot-formed, slots-few, mark-same, mark-other, mark-formed, page-formed}
+use Rattle.dataset.specs.Laws.{Touched}
+use Rattle.dataset.specs.Format.{Formed, markOf, opened, slotsIn, placeOf, setRules, checked}
+use Rattle.dataset.proofs.Formed.{formed-opened, formed-slots, slot-formed, slots-few, mark-same, mark-other, mark-formed, page-formed}
 
 -- Two slots have no byte in common.
 apart : (s j k : ℕ) → (j ≡ k → ⊥) → (s + 2048 * j + 2048 ≤ s + 2048 * k) ⊎ (s + 2048 * k + 2048 ≤ s + 2048 * j)
@@ -126,6 +127,18 @@ module _ (b : List ℕ) (k : ℕ) (p : List ℕ) (h : k < slotsIn b) (e : length
             ∙ sym (ap (λ t. cond t p (setRules .slot b j)) (ne-eqb j k q))
       ]
 
+pub touches : (b : List ℕ) (k : ℕ) (p : List ℕ) → Usable setRules b k → length p ≡ 2048 → Touched b k p (setRules .write b k p)
+touches b k p u e = record {
+  long = write-long b k p (u .0) e;
+  front = λ j h.
+      touched b k p (u .0) e .kept j (inl (omega arith)) ∙ laws .beside .set-within b (8 + k) 1 .kept j (inl (omega arith));
+  accepted = write-opened b k p (u .0) e;
+  mark = mark-over-same b k p (u .0) e;
+  filled = laws .same .page-same (set b (8 + k) 1) (placeOf b k) p (place-within b k p (u .0) e) e;
+  marks = λ j l ne. mark-over-other b k p (u .0) e j l ne;
+  pages = λ j l ne. page-over-other b k p (u .0) e j l ne;
+}
+
 slot-long : (b : List ℕ) (k : ℕ) (t : Bool) → k < slotsIn b → length (cond t (page b (placeOf b k)) zeros) ≡ 2048
 slot-long b k true h = laws .pages .page-long b (placeOf b k) (within b k h)
 slot-long b k false h = laws .pages .zeros-long
@@ -179,5 +192,5 @@ stored v k at p xs part h f a g q =
     let m = set (v .items) (8 + k) 1 in
     let n : at + 2048 - at ≡ 2048 = omega arith in
     let same : putMid at (at + 2048 - at) xs part ≡ setRules .write (v .items) k p =
-      ap (λ l. putMid at (at + 2048 - at) l part) g ∙ put-mid m part at (at + 2048 - at) n ∙ ap (putPage m at) q ∙ ap (λ i. putPage m i p) a in
+    ap (λ l. putMid at (at + 2048 - at) l part) g ∙ put-mid m part at (at + 2048 - at) n ∙ ap (putPage m at) q ∙ ap (λ i. putPage m i p) a in
     refilled-is (with-item v (8 + k) 1) (putMid at (at + 2048 - at) xs part) (ap length same ∙ write-long (v .items) k p h f ∙ sym (v .ok .0)) ∙ same

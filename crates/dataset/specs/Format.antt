@@ -49,6 +49,13 @@ opened bytes =
 abbrev pub isDataSet : List ℕ → Bool
 isDataSet bytes = isOk (opened bytes)
 
+-- The same as a list of facts, with no order among them.
+pub record Formed (bytes : List ℕ) : Type 0 where
+  pub size : word bytes 4 ≡ 2048
+  pub few : word bytes 0 ≤ 8192
+  pub long : length bytes ≡ 8 + word bytes 0 + 2048 * word bytes 0
+  pub marks : (k : ℕ) → k < word bytes 0 → markOf bytes k < 3
+
 -- The slots of an area that was opened: none where it was refused.
 abbrev pub slotsOf : Result ℕ OpenRefusal → ℕ
 slotsOf (Ok n) = n

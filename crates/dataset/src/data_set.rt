@@ -10,6 +10,7 @@ ghost use Rattle.std.specs.Of.Vec.{vec-items};
 ghost use Rattle.std.specs.Results.{Cases};
 ghost use Rattle.std.specs.Vec.{made};
 ghost use Rattle.pages.specs.Store.{refusalAt};
+ghost use Rattle.dataset.specs.Laws.{SetLaws};
 ghost use Rattle.dataset.specs.Format.{Blank, badAnswer, blankRefused, blankSet, checked, markAnswer, markOf, marked, marksKnown, opened, placeOf, setFault, setRules, slotsIn, whyNot};
 use crate::refusal::BlankRefusal;
 use crate::refusal::MarkRefusal;
@@ -246,4 +247,13 @@ pub impl PageStore for DataSet as DataSetStore {
         part.copy_from_slice(page);
         Ok(())
     }
+}
+
+/// The number of this kind of store. What opening accepts and what a write touches are stated here as theorems: they hold
+/// of the definitions that the contracts above cite.
+pub fn laws() -> u8
+    ensures number { λ r. ⌜ r ≡ 2 ⌝ }
+    ensures laws { λ _. ⌜ SetLaws ⌝ }
+{
+    DataSetStore::KIND
 }

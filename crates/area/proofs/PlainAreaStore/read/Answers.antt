@@ -12,5 +12,5 @@ returns c =
     let buffer = c .args .page .now in
     let none = answered plainRules m k (refusalAt plainRules m k (length buffer)) (c .in-Continue-check .ensures tt) in
     let page = copied m (c .deref .result .now) (c .copy-from-slice .last .self) k (c .place-at .result)
-      (c .place-at .ensures) (c .deref .ensures .value) (c .copy-from-slice .ensures .after) in
+    (c .place-at .ensures) (c .deref .ensures .value) (c .copy-from-slice .ensures .after) in
     record { answer = told-done plainRules m k buffer none; after = read-done plainRules m k buffer none _ page }

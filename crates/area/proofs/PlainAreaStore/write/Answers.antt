@@ -13,5 +13,5 @@ returns c =
     let none = answered plainRules (v .items) k (refusalAt plainRules (v .items) k (length p)) (c .in-Continue-check .ensures tt) in
     let u = none-usable plainRules (v .items) k (length p) none in
     let put = stored v k (c .place-at .result) p (c .deref-mut .result .now) (c .copy-from-slice .last .self) (u .1 .0) (u .0)
-      (c .place-at .ensures) (c .deref-mut .ensures .value) (c .copy-from-slice .ensures .after) in
+    (c .place-at .ensures) (c .deref-mut .ensures .value) (c .copy-from-slice .ensures .after) in
     record { answer = told-done plainRules (v .items) k p none; after = write-done plainRules (v .items) k p none _ put }

@@ -45,5 +45,5 @@ returns c =
     let ok = c .in-Continue-mark .ensures tt in
     let none = unrefused b k (length buffer) mark ok in
     let page = read-written b k (length buffer) mark ok (c .copy-from-slice .last .self) (c .deref .result .now) (c .place-at .result)
-      (c .if-mark-ne-WRITTEN .left) (c .place-at .ensures) (c .deref .ensures .value) (c .copy-from-slice .ensures .after) in
+    (c .if-mark-ne-WRITTEN .left) (c .place-at .ensures) (c .deref .ensures .value) (c .copy-from-slice .ensures .after) in
     record { answer = told-done setRules b k buffer none; after = read-done setRules b k buffer none _ page }

@@ -44,7 +44,7 @@ ghost-self c =
     let h = there (v .items) k (length p) (c .in-Continue-check .field-0) (c .in-Continue-check .ensures tt) in
     let e = long (v .items) k (length p) (c .in-Continue-check .field-0) (c .in-Continue-check .ensures tt) in
     let put = stored v k (c .place-at .result) p (c .deref-mut .result .now) (c .copy-from-slice .last .self) h e
-      (c .place-at .ensures) (c .deref-mut .ensures .value) (c .copy-from-slice .ensures .after) in
+    (c .place-at .ensures) (c .deref-mut .ensures .value) (c .copy-from-slice .ensures .after) in
     (c .args .self .now .known ∙ sym (ap opened put ∙ write-opened (v .items) k p h e), tt)
 
 pub returns : need.returns
@@ -56,5 +56,5 @@ returns c =
     let h = there (v .items) k (length p) (c .in-Continue-check .field-0) (c .in-Continue-check .ensures tt) in
     let e = long (v .items) k (length p) (c .in-Continue-check .field-0) (c .in-Continue-check .ensures tt) in
     let put = stored v k (c .place-at .result) p (c .deref-mut .result .now) (c .copy-from-slice .last .self) h e
-      (c .place-at .ensures) (c .deref-mut .ensures .value) (c .copy-from-slice .ensures .after) in
+    (c .place-at .ensures) (c .deref-mut .ensures .value) (c .copy-from-slice .ensures .after) in
     record { answer = told-done setRules (v .items) k p none; after = write-done setRules (v .items) k p none _ put }
