@@ -30,7 +30,8 @@ impl PlainArea {
     pub fn into_area(self) -> Vec<u8>
         ensures { λ r. ⌜ r ≡ self .area ⌝ }
     {
-        self.area
+        let PlainArea { area } = self;
+        area
     }
 
     /// The first refusal that holds for a slot and a buffer of so many bytes.
@@ -112,4 +113,62 @@ pub fn laws() -> u8
     ensures laws { λ _. ⌜ PlainLaws ⌝ }
 {
     PlainAreaStore::KIND
+}
+
+#[cfg(test)]
+mod tests {
+    use super::*;
+    use pages::fault::FaultDebug;
+    use pages::fault::FaultPartialEq;
+    use std::test::*;
+
+    #[test]
+    fn counts_whole_slots(rt: LibcRuntime) -> Result<(), Fail> {
+        check_eq(PlainArea::new(vec![in rt.alloc(); 0u8; 2047]?).count(), 0)?;
+        check_eq(PlainArea::new(vec![in rt.alloc(); 0u8; 2048]?).count(), 1)?;
+        check_eq(PlainArea::new(vec![in rt.alloc(); 0u8; 4095]?).count(), 1)?;
+        check_eq(
+            PlainArea::new(vec![in rt.alloc(); 0u8; 2048 * 8191]?).count(),
+            8191,
+        )?;
+        check_eq(
+            PlainArea::new(vec![in rt.alloc(); 0u8; 2048 * 8193]?).count(),
+            8192,
+        )
+    }
+
+    #[test]
+    fn refuses_in_order(rt: LibcRuntime) -> Result<(), Fail> {
+        let mut store = PlainArea::new(vec![in rt.alloc(); 7u8; 4100]?);
+        let mut long = [1u8; 2049];
+        check_eq(store.good(1), Ok(()))?;
+        check_eq(store.good(2), Err(refused(StoreRefusal::NoSuchSlot, 2)))?;
+        check_eq(
+            store.read(2, &mut long),
+            Err(refused(StoreRefusal::WrongLength, 2)),
+        )?;
+        check_eq(
+            store.read(2, &mut long[0..2048]),
+            Err(refused(StoreRefusal::NoSuchSlot, 2)),
+        )?;
+        check_eq(
+            store.write(1, &long[0..2047]),
+            Err(refused(StoreRefusal::WrongLength, 1)),
+        )?;
+        check_eq(long[0], 1)
+    }
+
+    #[test]
+    fn writes_its_slot_alone(rt: LibcRuntime) -> Result<(), Fail> {
+        let mut store = PlainArea::new(vec![in rt.alloc(); 7u8; 4100]?);
+        let mut page = [9u8; 2048];
+        check_eq(store.write(1, &page), Ok(()))?;
+        check_eq(store.read(0, &mut page), Ok(()))?;
+        check_eq(page[2047], 7)?;
+        let area = store.into_area();
+        check_eq(area.get(2047).copied(), Some(7))?;
+        check_eq(area.get(2048).copied(), Some(9))?;
+        check_eq(area.get(4095).copied(), Some(9))?;
+        check_eq(area.get(4096).copied(), Some(7))
+    }
 }

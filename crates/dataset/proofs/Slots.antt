@@ -174,15 +174,15 @@ module _ (b : List ℕ) (k n mark : ℕ) (ok : Ok mark ≡ checked b k (refusalA
   long = none-usable setRules b k n unrefused .0
 
   -- what a read copies out, by the mark
-  pub read-blank : (l : List ℕ) → (mark ≡ 1 → ⊥) → l ≡ replicate n 0 → l ≡ setRules .slot b k
-  read-blank l ne e =
-      cleared l n long e ∙ sym (ap (λ t. cond t (page b (placeOf b k)) zeros) (ne-eqb (markOf b k) 1 (λ q. ne (mark-is ∙ q))))
+  pub read-blank : (l : List ℕ) → false ≡ eqb mark 1 → l ≡ replicate n 0 → l ≡ setRules .slot b k
+  read-blank l t e =
+      cleared l n long e ∙ ap (λ x. cond x (page b (placeOf b k)) zeros) t ∙ ap (λ m. cond (eqb m 1) (page b (placeOf b k)) zeros) mark-is
 
-  pub read-written : (l xs : List ℕ) (at : ℕ) → mark ≡ 1 → at ≡ placeOf b k → xs ≡ b → l ≡ take (at + 2048 - at) (drop at xs)
+  pub read-written : (l xs : List ℕ) (at : ℕ) → true ≡ eqb mark 1 → at ≡ placeOf b k → xs ≡ b → l ≡ take (at + 2048 - at) (drop at xs)
       → l ≡ setRules .slot b k
-  read-written l xs at q a g e =
+  read-written l xs at t a g e =
       e ∙ part xs at (at + 2048 - at) (let m : at + 2048 - at ≡ 2048 = omega arith in m) ∙ ap (λ s. page s at) g ∙ ap (page b) a
-      ∙ sym (ap (λ t. cond t (page b (placeOf b k)) zeros) (eq-eqb (markOf b k) 1 (sym mark-is ∙ q)))
+      ∙ ap (λ x. cond x (page b (placeOf b k)) zeros) t ∙ ap (λ m. cond (eqb m 1) (page b (placeOf b k)) zeros) mark-is
 
 -- What is left of the Vec after the mark was put and the page copied into its part.
 pub stored : (v : Vec ℕ Global) (k at : ℕ) (p xs part : List ℕ) → k < slotsIn (v .items) → length p ≡ 2048 → at ≡ placeOf (v .items) k

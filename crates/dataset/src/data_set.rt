@@ -3,7 +3,7 @@ ghost use mathlib.Core.Path.{_≡_};
 ghost use mathlib.Core.Bool.{cond};
 ghost use mathlib.Core.List.{List};
 ghost use Prim.Native.Nat.{ℕ, _+_, _≤_};
-ghost use lib.Dec.{ltb};
+ghost use lib.Dec.{eqb, ltb};
 ghost use lib.ListN.{length};
 ghost use Rattle.std.specs.declared.option.Option.the-variants.{Some, None};
 ghost use Rattle.std.specs.Of.Vec.{vec-items};
@@ -146,7 +146,8 @@ impl DataSet {
     pub fn into_area(self) -> Vec<u8>
         ensures { λ r. ⌜ r ≡ self .area ⌝ }
     {
-        self.area
+        let DataSet { area, slots: _ } = self;
+        area
     }
 }
 
@@ -187,6 +188,13 @@ fn marks_known(area: &[u8], count: usize) -> bool
         }
     }
     true
+}
+
+/// Whether a slot with this mark holds the page in its bytes, and is not blank.
+fn holds_page(mark: u8) -> bool
+    ensures { λ r. ⌜ r ≡ eqb mark 1 ⌝ }
+{
+    mark == WRITTEN
 }
 
 /// A fault of this kind of store.
@@ -230,7 +238,7 @@ pub impl PageStore for DataSet as DataSetStore {
 
     fn read(&self, slot: u32, page: &mut [u8]) -> Result<(), Fault> {
         let mark = self.check(slot, page.len())?;
-        if mark != WRITTEN {
+        if !holds_page(mark) {
             page.fill(0);
             return Ok(());
         }
@@ -256,4 +264,109 @@ pub fn laws() -> u8
     ensures laws { λ _. ⌜ SetLaws ⌝ }
 {
     DataSetStore::KIND
+}
+
+#[cfg(test)]
+mod tests {
+    use super::*;
+    use crate::refusal::BlankRefusalDebug;
+    use crate::refusal::BlankRefusalPartialEq;
+    use crate::refusal::MarkRefusalDebug;
+    use crate::refusal::MarkRefusalPartialEq;
+    use crate::refusal::OpenRefusalDebug;
+    use crate::refusal::OpenRefusalPartialEq;
+    use pages::fault::FaultDebug;
+    use pages::fault::FaultPartialEq;
+    use std::test::*;
+
+    // A blank data set with one byte of its area altered.
+    fn altered(heap: Global, slots: u32, at: usize, value: u8) -> Result<DataSet, Fail> {
+        let mut area = DataSet::blank(heap, slots)?.into_area();
+        check(at < area.len())?;
+        area[at] = value;
+        Ok(DataSet::open(area))
+    }
+
+    #[test]
+    fn opens_its_format_alone(rt: LibcRuntime) -> Result<(), Fail> {
+        let heap = rt.alloc();
+        check_eq(
+            DataSet::open(vec![in heap; 0u8; 7]?).refusal(),
+            Some(OpenRefusal::TooShort),
+        )?;
+        check_eq(
+            altered(heap, 1, 7, 1)?.refusal(),
+            Some(OpenRefusal::OtherPageSize),
+        )?;
+        check_eq(
+            altered(heap, 8192, 3, 1)?.refusal(),
+            Some(OpenRefusal::TooManySlots),
+        )?;
+        check_eq(altered(heap, 1, 8, 2)?.refusal(), None)?;
+        check_eq(
+            altered(heap, 1, 8, 3)?.refusal(),
+            Some(OpenRefusal::UnknownMark),
+        )?;
+        let mut area = DataSet::blank(heap, 1)?.into_area();
+        area.push(0)?;
+        check_eq(
+            DataSet::open(area).refusal(),
+            Some(OpenRefusal::OtherLength),
+        )
+    }
+
+    #[test]
+    fn makes_blank_sets(rt: LibcRuntime) -> Result<(), Fail> {
+        check_eq(DataSet::blank(rt.alloc(), 0)?.into_area().len(), 8)?;
+        check_eq(DataSet::blank(rt.alloc(), 8192)?.count(), 8192)?;
+        check_eq(
+            DataSet::blank(rt.alloc(), 8193).err(),
+            Some(BlankRefusal::TooManySlots),
+        )
+    }
+
+    #[test]
+    fn reads_blank_slots_as_zeros(rt: LibcRuntime) -> Result<(), Fail> {
+        let mut store = altered(rt.alloc(), 2, 10, 5)?;
+        let mut page = [1u8; 2048];
+        check_eq(store.read(0, &mut page), Ok(()))?;
+        check_eq(page[0], 0)?;
+        check_eq(store.set_mark(0, 1), Ok(()))?;
+        check_eq(store.read(0, &mut page), Ok(()))?;
+        check_eq(page[0], 5)
+    }
+
+    #[test]
+    fn refuses_in_order(rt: LibcRuntime) -> Result<(), Fail> {
+        let mut store = DataSet::blank(rt.alloc(), 2)?;
+        let page = [1u8; 2049];
+        check_eq(store.mark_bad(1), Ok(()))?;
+        check_eq(store.mark_bad(2), Err(refused(StoreRefusal::NoSuchSlot, 2)))?;
+        check_eq(
+            store.write(1, &page[0..2047]),
+            Err(refused(StoreRefusal::WrongLength, 1)),
+        )?;
+        check_eq(
+            store.write(2, &page),
+            Err(refused(StoreRefusal::WrongLength, 2)),
+        )?;
+        check_eq(
+            store.write(1, &page[0..2048]),
+            Err(refused(StoreRefusal::BadSlot, 1)),
+        )?;
+        check_eq(store.write(0, &page[0..2048]), Ok(()))?;
+        check_eq(store.mark(0), Some(1))
+    }
+
+    #[test]
+    fn has_no_slots_once_refused(rt: LibcRuntime) -> Result<(), Fail> {
+        let mut store = DataSet::blank(rt.alloc(), 2)?;
+        check_eq(store.set_mark(2, 0), Err(MarkRefusal::NoSuchSlot))?;
+        check_eq(
+            store.set_mark(1, 3),
+            Err(MarkRefusal::NotDataSet(OpenRefusal::UnknownMark)),
+        )?;
+        check_eq(store.good(0), Err(refused(StoreRefusal::NoSuchSlot, 0)))?;
+        check_eq(store.into_area().get(9).copied(), Some(3))
+    }
 }

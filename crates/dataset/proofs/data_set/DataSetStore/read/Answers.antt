@@ -7,15 +7,15 @@ use Rattle.dataset.specs.Format.{setRules}
 use Rattle.dataset.proofs.Slots.{within, there, unrefused, read-blank, read-written}
 use Rattle.dataset.proofs.data_set.DataSetStore.read.Needs as need
 
-pub returns-then-mark-ne-WRITTEN : need.returns-then-mark-ne-WRITTEN
-returns-then-mark-ne-WRITTEN c =
+pub returns-then-not-holds-page : need.returns-then-not-holds-page
+returns-then-not-holds-page c =
     let b = c .args .self .now .area .items in
     let k = c .args .slot in
     let buffer = c .args .page .now in
     let mark = c .in-Continue-mark .mark in
     let ok = c .in-Continue-mark .ensures tt in
     let none = unrefused b k (length buffer) mark ok in
-    let blank = read-blank b k (length buffer) mark ok (c .fill .last .self) (c .if-mark-ne-WRITTEN .taken) (c .fill .ensures .after (λ y q. q)) in
+    let blank = read-blank b k (length buffer) mark ok (c .fill .last .self) (c .if-not-holds-page .ensures tt) (c .fill .ensures .after (λ y q. q)) in
     record { answer = told-done setRules b k buffer none; after = read-done setRules b k buffer none _ blank }
 
 pub add-at : need.add-at
@@ -45,5 +45,5 @@ returns c =
     let ok = c .in-Continue-mark .ensures tt in
     let none = unrefused b k (length buffer) mark ok in
     let page = read-written b k (length buffer) mark ok (c .copy-from-slice .last .self) (c .deref .result .now) (c .place-at .result)
-    (c .if-mark-ne-WRITTEN .left) (c .place-at .ensures) (c .deref .ensures .value) (c .copy-from-slice .ensures .after) in
+    (c .if-not-holds-page .ensures tt) (c .place-at .ensures) (c .deref .ensures .value) (c .copy-from-slice .ensures .after) in
     record { answer = told-done setRules b k buffer none; after = read-done setRules b k buffer none _ page }
