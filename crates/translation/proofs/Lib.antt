@@ -1,0 +1,5 @@
+pub mod Walked
+pub mod Held
+pub mod Layered
+pub mod Steps
+pub mod Coherent

@@ -1,0 +1,3 @@
+pub mod Translator
+pub mod Layers
+pub mod Runs
