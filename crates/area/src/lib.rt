@@ -27,6 +27,13 @@ impl PlainArea {
     }
 
     /// The bytes, to be saved.
+    pub fn area(&self) -> &[u8]
+        ensures { λ r. ⌜ now r ≡ vec-items (now (self .entry) .area) ⌝ }
+    {
+        self.area.as_slice()
+    }
+
+    /// The area itself, taken out again.
     pub fn into_area(self) -> Vec<u8>
         ensures { λ r. ⌜ r ≡ self .area ⌝ }
     {

@@ -27,9 +27,10 @@ use storage::word;
 /// Bytes of the two numbers at the front.
 const FRONT: usize = 8;
 
-/// The marks of a slot that was written, and of a bad one. A blank slot has mark 0.
+/// The mark of a slot that was written. A blank one has mark 0.
 const WRITTEN: u8 = 1;
 
+/// The mark of a bad slot, and the highest that there is.
 const BAD: u8 = 2;
 
 /// An area that was opened. Where opening refused it, it is kept as it is and the store has no slots.
@@ -142,7 +143,14 @@ impl DataSet {
         FRONT + self.count() as usize + PAGE * slot as usize
     }
 
-    /// The area, to be saved: byte for byte what the format says.
+    /// The bytes of the area, to be saved: byte for byte what the format says, or what was refused.
+    pub fn area(&self) -> &[u8]
+        ensures { λ r. ⌜ now r ≡ vec-items (now (self .entry) .area) ⌝ }
+    {
+        self.area.as_slice()
+    }
+
+    /// The area itself, taken out again.
     pub fn into_area(self) -> Vec<u8>
         ensures { λ r. ⌜ r ≡ self .area ⌝ }
     {

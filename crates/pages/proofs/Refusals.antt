@@ -64,3 +64,21 @@ module _ {M : Type 0} (r : Rules M) (m : M) (k : ℕ) (buffer : List ℕ) (none 
 
   pub write-done : (x : M) → x ≡ r .write m k buffer → x ≡ written r m k buffer (refusalAt r m k (length buffer))
   write-done x h = h ∙ ap (written r m k buffer) (sym none)
+
+-- What a call at a slot that can be read and written, with a buffer of 2,048 bytes, answers and leaves.
+module _ {M : Type 0} (r : Rules M) (m : M) (k : ℕ) (u : Usable r m k) where
+  pub good-usable : told r m k (refusalAt r m k 2048) ≡ Ok tt
+  good-usable = ap (told r m k) (unrefused r m k 2048 refl u)
+
+  pub told-usable : (buffer : List ℕ) → length buffer ≡ 2048 → told r m k (refusalAt r m k (length buffer)) ≡ Ok tt
+  told-usable buffer e = ap (told r m k) (unrefused r m k (length buffer) e u)
+
+  pub read-usable : (buffer : List ℕ) → length buffer ≡ 2048 → readInto r m k buffer (refusalAt r m k (length buffer)) ≡ r .slot m k
+  read-usable buffer e = ap (readInto r m k buffer) (unrefused r m k (length buffer) e u)
+
+  pub write-usable : (page : List ℕ) → length page ≡ 2048 → written r m k page (refusalAt r m k (length page)) ≡ r .write m k page
+  write-usable page e = ap (written r m k page) (unrefused r m k (length page) e u)
+
+-- And conversely: `good` answers at no other slot.
+pub usable-good : {M : Type 0} (r : Rules M) (m : M) (k : ℕ) → told r m k (refusalAt r m k 2048) ≡ Ok tt → Usable r m k
+usable-good r m k e = none-usable r m k 2048 (answered r m k (refusalAt r m k 2048) (sym e)) .1

@@ -2,6 +2,7 @@
 ghost use mathlib.Core.Path.{_≡_};
 ghost use Prim.Native.Nat.{ℕ};
 ghost use lib.ListN.{length};
+ghost use Rattle.pages.specs.declared.fault.StoreRefusal.{StoreRefusal};
 ghost use Rattle.pages.specs.Store.{Rules, Lawful, refusalAt, told, readInto, written};
 use crate::fault::Fault;
 
@@ -27,6 +28,8 @@ pub trait PageStore {
     law lawful: { Lawful rules };
 
     law valid: { (x : Self) → rules .good (model x) };
+
+    law kinds: { (m : Model) (why : StoreRefusal) (k : ℕ) → rules .fault m why k .kind ≡ number };
 
     /// KIND, for code over any store.
     fn kind_number() -> u8
