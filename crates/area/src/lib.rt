@@ -125,8 +125,10 @@ pub fn laws() -> u8
 #[cfg(test)]
 mod tests {
     use super::*;
+    use pages::call::Call;
     use pages::fault::FaultDebug;
     use pages::fault::FaultPartialEq;
+    use pages::runs::read_after;
     use std::test::*;
 
     #[test]
@@ -177,5 +179,34 @@ mod tests {
         check_eq(area.get(2048).copied(), Some(9))?;
         check_eq(area.get(4095).copied(), Some(9))?;
         check_eq(area.get(4096).copied(), Some(7))
+    }
+
+    #[test]
+    fn reads_the_last_page_written(rt: LibcRuntime) -> Result<(), Fail> {
+        let heap = rt.alloc();
+        let mut store = PlainArea::new(vec![in heap; 0u8; 4096]?);
+        let first = Call::Write {
+            slot: 1,
+            page: vec![in heap; 1u8; 2048]?,
+        };
+        let last = Call::Write {
+            slot: 1,
+            page: vec![in heap; 2u8; 2048]?,
+        };
+        let short = Call::Write {
+            slot: 1,
+            page: vec![in heap; 3u8; 2047]?,
+        };
+        let mut page = [0u8; 2048];
+        check_eq(
+            read_after(
+                &mut store,
+                &[first, last, short, Call::Read { slot: 9 }],
+                1,
+                &mut page,
+            ),
+            Ok(()),
+        )?;
+        check_eq(page[0], 2)
     }
 }
