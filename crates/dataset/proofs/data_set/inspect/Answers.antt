@@ -22,7 +22,7 @@ returns-then-slots-gt-MOST-SLOTS c =
 pub returns-then-area-count : need.returns-then-area-count
 returns-then-area-count c =
     other-length (c .args .area .now) (c .in-Some .size) (c .in-Some-word .slots) (c .in-Some .ensures tt) (c .in-Some-word .ensures tt)
-    (c .if-size-ne-PAGE .left) (c .if-slots-gt-MOST-SLOTS .left) (c .if-area-count .taken)
+    (c .if-size-ne-PAGE .left) (c .if-slots-gt-MOST-SLOTS .left) (λ e. omega arith)
 
 pub returns-then-not-marks-known : need.returns-then-not-marks-known
 returns-then-not-marks-known c =
