@@ -32,8 +32,7 @@ part-part-end c =
     let k = c .args .slot in
     let w = within b k (there b k (length (c .args .page .now)) (c .in-Continue-check .field-0) (c .in-Continue-check .ensures tt)) in
     let e = c .place-at .ensures in
-    let l = length-set b (8 + k) 1 in
-    let d : c .place-at .result + 2048 ≤ length (c .deref-mut .result .now) = rw (c .deref-mut .ensures .value) (omega arith) in
+    let d : c .place-at .result + 2048 ≤ length (c .deref-mut .result .now) = rw (c .deref-mut .ensures .value) (simp length-set (omega arith)) in
     search needs
 
 pub ghost-self : need.ghost-self
