@@ -29,8 +29,6 @@ pub trait PageStore {
 
     law valid: { (x : Self) → rules .good (model x) };
 
-    law kinds: { (m : Model) (why : StoreRefusal) (k : ℕ) → rules .fault m why k .kind ≡ number };
-
     /// KIND, for code over any store.
     fn kind_number() -> u8
         ensures { λ r. ⌜ r ≡ number ⌝ };
