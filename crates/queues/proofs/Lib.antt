@@ -1,0 +1,4 @@
+pub mod Rings
+pub mod Linking
+pub mod Unlinking
+pub mod Weight

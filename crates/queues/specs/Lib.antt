@@ -1,0 +1,3 @@
+pub mod Links
+pub mod Five
+pub mod Names

@@ -1,0 +1,3 @@
+// The frame policy of five queues.
+mod queue;
+pub use queue::Queue;
