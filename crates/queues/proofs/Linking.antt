@@ -16,7 +16,7 @@ use Rattle.queues.proofs.Rings.{Ring, Owned, owned-same, below, node-in, node-
 
 -- The frame f, which stands in no queue, is linked in at the tail of the queue q, which has the frames xs.
 module _ (next prev place : List ℕ) (q f : ℕ) (xs : List ℕ) (n-long : length next ≡ 261) (p-long : length prev ≡ 261) (long : length place ≡ 256)
-    (q< : q < 5) (f< : f < 256) (free : getD place f 5 ≡ 5) (ring : Ring next prev place q xs) where
+    (q< : q < 5) (f< : f < 256) (free : 5 ≤ getD place f 5) (ring : Ring next prev place q xs) where
   abbrev tail : ℕ
   tail = getD prev (256 + q) 0
 

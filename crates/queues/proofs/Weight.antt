@@ -16,7 +16,7 @@ use Rattle.frames.specs.Keys.{referred, changed, referenceOff}
 use Rattle.frames.specs.Policy.{Took}
 use Rattle.frames.proofs.Held.{without-first, without-later}
 use Rattle.frames.proofs.Marks.{off-referred}
-use Rattle.queues.specs.Five.{Five, empty, size, dropped, turned, on-q01, on-q10, on-q11, marked-off, seen-q00, seen-q01, step, step-at, firstOf, steps}
+use Rattle.queues.specs.Five.{Five, empty, size, turned, marked-off, seen-q00, seen-q01, step, step-at, firstOf, steps}
 
 -- what a frame weighs more where its reference bit is on
 abbrev bonus : List ℕ → ℕ → ℕ

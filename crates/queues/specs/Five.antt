@@ -10,6 +10,8 @@ use Rattle.std.specs.declared.option.Option.the-variants.{Some, None}
 use Rattle.frames.specs.Held.{timesIn, without}
 use Rattle.frames.specs.Keys.{referred, changed, referenceOff}
 use Rattle.frames.specs.Policy.{Rules, Took}
+use Rattle.queues.specs.declared.queue.Queue.{Queue}
+use Rattle.queues.specs.declared.queue.Queue.the-variants.{Q00, Q01, Q10, Q11, Hq}
 
 -- the five queues, the head of each first
 pub record Five : Type 0 where
@@ -41,27 +43,19 @@ dropped m f = record {
 }
 
 -- the queues with a frame at the tail of one of them
-abbrev pub on-q00 : Five → ℕ → Five
-on-q00 m f = record { q00 = m .q00 ++ (f ∷ []); q01 = m .q01; q10 = m .q10; q11 = m .q11; hq = m .hq }
+abbrev pub on : Queue → Five → ℕ → Five
+on Q00 m f = record { q00 = m .q00 ++ (f ∷ []); q01 = m .q01; q10 = m .q10; q11 = m .q11; hq = m .hq }
+on Q01 m f = record { q00 = m .q00; q01 = m .q01 ++ (f ∷ []); q10 = m .q10; q11 = m .q11; hq = m .hq }
+on Q10 m f = record { q00 = m .q00; q01 = m .q01; q10 = m .q10 ++ (f ∷ []); q11 = m .q11; hq = m .hq }
+on Q11 m f = record { q00 = m .q00; q01 = m .q01; q10 = m .q10; q11 = m .q11 ++ (f ∷ []); hq = m .hq }
+on Hq m f = record { q00 = m .q00; q01 = m .q01; q10 = m .q10; q11 = m .q11; hq = m .hq ++ (f ∷ []) }
 
-abbrev pub on-q01 : Five → ℕ → Five
-on-q01 m f = record { q00 = m .q00; q01 = m .q01 ++ (f ∷ []); q10 = m .q10; q11 = m .q11; hq = m .hq }
-
-abbrev pub on-q10 : Five → ℕ → Five
-on-q10 m f = record { q00 = m .q00; q01 = m .q01; q10 = m .q10 ++ (f ∷ []); q11 = m .q11; hq = m .hq }
-
-abbrev pub on-q11 : Five → ℕ → Five
-on-q11 m f = record { q00 = m .q00; q01 = m .q01; q10 = m .q10; q11 = m .q11 ++ (f ∷ []); hq = m .hq }
-
-abbrev pub on-hq : Five → ℕ → Five
-on-hq m f = record { q00 = m .q00; q01 = m .q01; q10 = m .q10; q11 = m .q11; hq = m .hq ++ (f ∷ []) }
-
--- the tail of Q with these reference and change bits
-abbrev pub filed : Bool → Bool → Five → ℕ → Five
-filed false false m f = on-q00 m f
-filed false true m f = on-q01 m f
-filed true false m f = on-q10 m f
-filed true true m f = on-q11 m f
+-- Q with these reference and change bits
+abbrev pub queueFor : Bool → Bool → Queue
+queueFor false false = Q00
+queueFor false true = Q01
+queueFor true false = Q10
+queueFor true true = Q11
 
 -- The names turn: Q10 becomes Q00, HQ becomes Q10, Q01 becomes HQ, Q11 becomes Q01, Q00 becomes Q11.
 abbrev pub turned : Five → Five
@@ -75,14 +69,14 @@ marked-off marks f = set marks f (referenceOff (getD marks f 0))
 -- of Q01, Q10 or Q11.
 abbrev pub seen-q00 : Bool → Bool → Five → List ℕ → ℕ → Took Five
 seen-q00 false false m marks f = record { frame = Some f; keys = marked-off marks f; left = dropped m f }
-seen-q00 false true m marks f = record { frame = None; keys = marked-off marks f; left = on-q01 (dropped m f) f }
-seen-q00 true false m marks f = record { frame = None; keys = marked-off marks f; left = on-q10 (dropped m f) f }
-seen-q00 true true m marks f = record { frame = None; keys = marked-off marks f; left = on-q11 (dropped m f) f }
+seen-q00 false true m marks f = record { frame = None; keys = marked-off marks f; left = on Q01 (dropped m f) f }
+seen-q00 true false m marks f = record { frame = None; keys = marked-off marks f; left = on Q10 (dropped m f) f }
+seen-q00 true true m marks f = record { frame = None; keys = marked-off marks f; left = on Q11 (dropped m f) f }
 
 -- The head of Q01 was looked at, with this reference bit: with it off it is taken, else it goes to the tail of Q11.
 abbrev pub seen-q01 : Bool → Five → List ℕ → ℕ → Took Five
 seen-q01 false m marks f = record { frame = Some f; keys = marked-off marks f; left = dropped m f }
-seen-q01 true m marks f = record { frame = None; keys = marked-off marks f; left = on-q11 (dropped m f) f }
+seen-q01 true m marks f = record { frame = None; keys = marked-off marks f; left = on Q11 (dropped m f) f }
 
 -- one step, at these frames of Q00 and Q01: a look at the head of Q00, or of Q01 where Q00 has none, or a turn of the names
 abbrev pub step-at : List ℕ → List ℕ → Five → List ℕ → Took Five
@@ -120,8 +114,8 @@ abbrev pub fiveRules : Rules Five
 fiveRules = record {
   good = Good;
   times = timesHeld;
-  enter = λ m f. cond (freeIn m f) (on-hq m f) m;
-  give-back = λ m f ref chg. cond (freeIn m f) (filed ref chg m f) m;
+  enter = λ m f. cond (freeIn m f) (on Hq m f) m;
+  give-back = λ m f ref chg. cond (freeIn m f) (on (queueFor ref chg) m f) m;
   leave = dropped;
   touch = λ m f. m;
   clear = λ m. empty;

@@ -1,3 +1,4 @@
 pub mod Links
 pub mod Five
 pub mod Names
+pub mod Model
