@@ -6,3 +6,4 @@ pub mod Lawful
 pub mod Operations
 pub mod Chains
 pub mod Moved
+pub mod Played

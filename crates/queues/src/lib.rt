@@ -2,6 +2,8 @@
 mod chain;
 mod five;
 mod moves;
+mod policy;
 mod queue;
 pub use five::FiveQueues;
+pub use policy::FiveQueuesPolicy;
 pub use queue::Queue;

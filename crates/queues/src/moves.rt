@@ -5,7 +5,7 @@ ghost use mathlib.Core.Path.{_≡_};
 ghost use lib.Dec.{eqb, ltb};
 ghost use lib.ListN.{getD};
 ghost use Rattle.frames.specs.Keys.{referred, changed};
-ghost use Rattle.queues.specs.Five.{empty, timesHeld, size, dropped, on, queueFor, turned, step};
+ghost use Rattle.queues.specs.Five.{empty, timesHeld, size, dropped, on, turned, step as stepOf};
 ghost use Rattle.queues.specs.Five.{seen-q00 as seenFirst, seen-q01 as seenSecond, marked-off as markedOff};
 ghost use Rattle.queues.specs.Model.{modelOf};
 ghost use Rattle.queues.specs.Names.{numberOf, framesOf, headOf};
@@ -99,4 +99,88 @@ impl FiveQueues {
     {
         self.first = (self.first + 2) % 5;
     }
+
+    // Whether a frame is held.
+    pub(crate) fn any(&self) -> bool
+        ensures { λ r. ⌜ r ≡ ltb 0 (size (modelOf (now (self .entry)))) ⌝ }
+    {
+        self.head(Queue::Q00).is_some()
+            || self.head(Queue::Q01).is_some()
+            || self.head(Queue::Q10).is_some()
+            || self.head(Queue::Q11).is_some()
+            || self.head(Queue::Hq).is_some()
+    }
+
+    // Looks at the head of Q00: with reference and change bit off it is taken, else it goes to the tail of Q01, Q10 or Q11.
+    fn look_first(&mut self, keys: &mut [u8; 256], frame: u8) -> Option<u8>
+        ensures answer { λ r. ⌜ r ≡ seenFirst (referred (getD (now (keys .entry)) frame 0)) (changed (getD (now (keys .entry)) frame 0)) (modelOf (now (self .entry))) (now (keys .entry)) frame .frame ⌝ }
+        ensures marks { λ _. ⌜ now (keys .exit) ≡ seenFirst (referred (getD (now (keys .entry)) frame 0)) (changed (getD (now (keys .entry)) frame 0)) (modelOf (now (self .entry))) (now (keys .entry)) frame .keys ⌝ }
+        ensures after { λ _. ⌜ modelOf (now (self .exit)) ≡ seenFirst (referred (getD (now (keys .entry)) frame 0)) (changed (getD (now (keys .entry)) frame 0)) (modelOf (now (self .entry))) (now (keys .entry)) frame .left ⌝ }
+    {
+        match note(keys, frame) {
+            (false, false) => {
+                self.unlink(frame);
+                Some(frame)
+            }
+            (false, true) => {
+                self.refile(Queue::Q01, frame);
+                None
+            }
+            (true, false) => {
+                self.refile(Queue::Q10, frame);
+                None
+            }
+            (true, true) => {
+                self.refile(Queue::Q11, frame);
+                None
+            }
+        }
+    }
+
+    // Looks at the head of Q01: with the reference bit off it is taken, else it goes to the tail of Q11.
+    fn look_second(&mut self, keys: &mut [u8; 256], frame: u8) -> Option<u8>
+        ensures answer { λ r. ⌜ r ≡ seenSecond (referred (getD (now (keys .entry)) frame 0)) (modelOf (now (self .entry))) (now (keys .entry)) frame .frame ⌝ }
+        ensures marks { λ _. ⌜ now (keys .exit) ≡ seenSecond (referred (getD (now (keys .entry)) frame 0)) (modelOf (now (self .entry))) (now (keys .entry)) frame .keys ⌝ }
+        ensures after { λ _. ⌜ modelOf (now (self .exit)) ≡ seenSecond (referred (getD (now (keys .entry)) frame 0)) (modelOf (now (self .entry))) (now (keys .entry)) frame .left ⌝ }
+    {
+        match note(keys, frame) {
+            (false, _) => {
+                self.unlink(frame);
+                Some(frame)
+            }
+            (true, _) => {
+                self.refile(Queue::Q11, frame);
+                None
+            }
+        }
+    }
+
+    // One step of Take: a look at the head of Q00, or of Q01 where Q00 is empty, or a turn of the names.
+    pub(crate) fn step(&mut self, keys: &mut [u8; 256]) -> Option<u8>
+        ensures answer { λ r. ⌜ r ≡ stepOf (modelOf (now (self .entry))) (now (keys .entry)) .frame ⌝ }
+        ensures marks { λ _. ⌜ now (keys .exit) ≡ stepOf (modelOf (now (self .entry))) (now (keys .entry)) .keys ⌝ }
+        ensures after { λ _. ⌜ modelOf (now (self .exit)) ≡ stepOf (modelOf (now (self .entry))) (now (keys .entry)) .left ⌝ }
+    {
+        match self.head(Queue::Q00) {
+            Some(frame) => self.look_first(keys, frame),
+            None => match self.head(Queue::Q01) {
+                Some(frame) => self.look_second(keys, frame),
+                None => {
+                    self.turn_names();
+                    None
+                }
+            },
+        }
+    }
+}
+
+// Notes the reference and the change bit of a frame, and turns the reference bit off.
+fn note(keys: &mut [u8; 256], frame: u8) -> (bool, bool)
+    ensures reference { λ r. ⌜ r .0 ≡ referred (getD (now (keys .entry)) frame 0) ⌝ }
+    ensures change { λ r. ⌜ r .1 ≡ changed (getD (now (keys .entry)) frame 0) ⌝ }
+    ensures marks { λ _. ⌜ now (keys .exit) ≡ markedOff (now (keys .entry)) frame ⌝ }
+{
+    let key = keys[frame as usize];
+    keys[frame as usize] = frames::reference_off(key);
+    (frames::is_referred(key), frames::is_changed(key))
 }
