@@ -7,3 +7,4 @@ pub mod Operations
 pub mod Chains
 pub mod Moved
 pub mod Played
+pub mod Order

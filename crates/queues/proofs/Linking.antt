@@ -46,9 +46,9 @@ module _ (next prev place : List ℕ) (q f : ℕ) (xs : List ℕ) (n-long : leng
   tail-below : tail < 261
   tail-below = small tail-owned
     where
-    small : Owned place q tail → tail < 261
-    small (inl a) = omega (arith, a .0)
-    small (inr a) = omega arith
+      small : Owned place q tail → tail < 261
+      small (inl a) = omega (arith, a .0)
+      small (inr a) = omega arith
 
   tail-strange : tail ≢ f
   tail-strange = strange q tail q< tail-owned
@@ -80,9 +80,10 @@ module _ (next prev place : List ℕ) (q f : ℕ) (xs : List ℕ) (n-long : leng
 
   pub linked-longs : (length next′ ≡ 261) × (length prev′ ≡ 261) × (length place′ ≡ 256)
   linked-longs = (
-      length-set (set next tail f) f mark ∙ length-set next tail f ∙ n-long,
-      length-set (set prev f tail) mark f ∙ length-set prev f tail ∙ p-long,
-      length-set place f q ∙ long)
+    length-set (set next tail f) f mark ∙ length-set next tail f ∙ n-long,
+    length-set (set prev f tail) mark f ∙ length-set prev f tail ∙ p-long,
+    length-set place f q ∙ long,
+  )
 
   -- the queue with one more frame
   abbrev more : List ℕ
@@ -111,31 +112,36 @@ module _ (next prev place : List ℕ) (q f : ℕ) (xs : List ℕ) (n-long : leng
   pub linked-this : Ring next′ prev′ place′ q more
   linked-this = record {
     placed = λ g. times-append g xs (f ∷ []) ∙ (elim (cases-eq g f) [
-        inl e ↦ (let t : timesIn g xs ≡ 0 = ring .placed g ∙ cond-false {A = ℕ} (eqb (getD place g 5) q) 1 0 (ne-eqb _ _ (λ z. omega (arith, ap (λ k. getD place k 5) e))) in
-                let s = share-same f g (sym e) in
-                let y = cond-true {A = ℕ} (eqb (getD place′ g 5) q) 1 0 (eq-eqb _ _ (ap (λ k. getD place′ k 5) e ∙ place-new)) in omega arith)
+      | inl e ↦ (let t : timesIn g xs ≡ 0 = ring .placed g ∙ cond-false {A = ℕ} (eqb (getD place g 5) q) 1 0 (ne-eqb _ _ (λ z. omega (arith, ap (λ k. getD place k 5) e))) in
+          let s = share-same f g (sym e) in
+          let y = cond-true {A = ℕ} (eqb (getD place′ g 5) q) 1 0 (eq-eqb _ _ (ap (λ k. getD place′ k 5) e ∙ place-new)) in omega arith)
       | inr ne ↦ (let s = share-other f g (λ e. ne (sym e)) in
-                let t : timesIn g xs ≡ cond (eqb (getD place′ g 5) q) 1 0 = ring .placed g ∙ ap (λ k. cond (eqb k q) 1 0) (sym (place-other g ne)) in omega arith) ]);
+          let t : timesIn g xs ≡ cond (eqb (getD place′ g 5) q) 1 0 = ring .placed g ∙ ap (λ k. cond (eqb k q) 1 0) (sym (place-other g ne)) in omega arith)
+    ]);
     forward = λ i h. elim (cases-lt i (length xs)) [
-        inl l ↦ (let e = more-old i (omega arith) in
-                ap (λ k. getD next′ k 0) e
-                ∙ next-other (nodeAt xs q i)
-                    (λ t. omega (arith, before-apart next prev place q xs long q< ring i (length xs) (omega arith) (omega arith) (t ∙ tail-is)))
-                    (strange q (nodeAt xs q i) q< (owned next prev place q xs long q< ring i (omega arith)))
-                ∙ ring .forward i (omega arith) ∙ sym (more-old (suc i) (omega arith)))
+      | inl l ↦ (let e = more-old i (omega arith) in
+          ap (λ k. getD next′ k 0) e
+          ∙ next-other (nodeAt xs q i)
+          (λ t. omega (arith, before-apart next prev place q xs long q< ring i (length xs) (omega arith) (omega arith) (t ∙ tail-is)))
+          (strange q (nodeAt xs q i) q< (owned next prev place q xs long q< ring i (omega arith)))
+          ∙ ring .forward i (omega arith) ∙ sym (more-old (suc i) (omega arith)))
       | inr g ↦ (elim (cases-eq i (length xs)) [
-            inl e ↦ ap (λ k. getD next′ k 0) (more-old i (omega arith) ∙ ap (nodeAt xs q) e ∙ sym tail-is) ∙ next-tail ∙ sym (more-new (suc i) (omega arith))
-          | inr ne ↦ (let is : i ≡ suc (length xs) = omega (arith, more-long) in
-                    ap (λ k. getD next′ k 0) (more-new i is) ∙ next-new ∙ sym (more-mark (suc i) (omega arith))) ]) ];
+        | inl e ↦ ap (λ k. getD next′ k 0) (more-old i (omega arith) ∙ ap (nodeAt xs q) e ∙ sym tail-is) ∙ next-tail ∙ sym (more-new (suc i) (omega arith))
+        | inr ne ↦ (let is : i ≡ suc (length xs) = omega (arith, more-long) in
+            ap (λ k. getD next′ k 0) (more-new i is) ∙ next-new ∙ sym (more-mark (suc i) (omega arith)))
+      ])
+    ];
     backward = λ i h. elim (cases-lt i (length xs)) [
-        inl l ↦ (let b = frame-below i l in
-                ap (λ k. getD prev′ k 0) (more-old (suc i) (omega arith))
-                ∙ prev-other (nodeAt xs q (suc i)) (strange q (nodeAt xs q (suc i)) q< (owned-behind next prev place q xs long q< ring i (omega arith))) (λ e. omega arith)
-                ∙ ring .backward i (omega arith) ∙ sym (more-old i (omega arith)))
+      | inl l ↦ (let b = frame-below i l in
+          ap (λ k. getD prev′ k 0) (more-old (suc i) (omega arith))
+          ∙ prev-other (nodeAt xs q (suc i)) (strange q (nodeAt xs q (suc i)) q< (owned-behind next prev place q xs long q< ring i (omega arith))) (λ e. omega arith)
+          ∙ ring .backward i (omega arith) ∙ sym (more-old i (omega arith)))
       | inr g ↦ (elim (cases-eq i (length xs)) [
-            inl e ↦ ap (λ k. getD prev′ k 0) (more-new (suc i) (omega arith)) ∙ prev-new ∙ tail-is ∙ ap (nodeAt xs q) (sym e) ∙ sym (more-old i (omega arith))
-          | inr ne ↦ (let is : i ≡ suc (length xs) = omega (arith, more-long) in
-                    ap (λ k. getD prev′ k 0) (more-mark (suc i) (omega arith)) ∙ prev-mark ∙ sym (more-new i is)) ]) ];
+        | inl e ↦ ap (λ k. getD prev′ k 0) (more-new (suc i) (omega arith)) ∙ prev-new ∙ tail-is ∙ ap (nodeAt xs q) (sym e) ∙ sym (more-old i (omega arith))
+        | inr ne ↦ (let is : i ≡ suc (length xs) = omega (arith, more-long) in
+            ap (λ k. getD prev′ k 0) (more-mark (suc i) (omega arith)) ∙ prev-mark ∙ sym (more-new i is))
+      ])
+    ];
   }
 
   -- every other queue is as it was
@@ -143,9 +149,10 @@ module _ (next prev place : List ℕ) (q f : ℕ) (xs : List ℕ) (n-long : leng
     pub linked-other : Ring next′ prev′ place′ r ys
     linked-other = record {
       placed = λ g. elim (cases-eq g f) [
-          inl e ↦ other .placed g ∙ cond-false {A = ℕ} (eqb (getD place g 5) r) 1 0 (ne-eqb _ _ (λ z. omega (arith, ap (λ k. getD place k 5) e)))
-              ∙ sym (cond-false {A = ℕ} (eqb (getD place′ g 5) r) 1 0 (ne-eqb _ _ (λ z. r≢ (sym z ∙ ap (λ k. getD place′ k 5) e ∙ place-new))))
-        | inr ne ↦ other .placed g ∙ ap (λ k. cond (eqb k r) 1 0) (sym (place-other g ne)) ];
+        | inl e ↦ other .placed g ∙ cond-false {A = ℕ} (eqb (getD place g 5) r) 1 0 (ne-eqb _ _ (λ z. omega (arith, ap (λ k. getD place k 5) e)))
+            ∙ sym (cond-false {A = ℕ} (eqb (getD place′ g 5) r) 1 0 (ne-eqb _ _ (λ z. r≢ (sym z ∙ ap (λ k. getD place′ k 5) e ∙ place-new))))
+        | inr ne ↦ other .placed g ∙ ap (λ k. cond (eqb k r) 1 0) (sym (place-other g ne))
+      ];
       forward = λ i h.
           let o = owned next prev place r ys long r< other i h in
           next-other (nodeAt ys r i) (λ t. r≢ (owned-same place r q (nodeAt ys r i) tail r< q< o tail-owned t)) (strange r (nodeAt ys r i) r< o) ∙ other .forward i h;

@@ -55,7 +55,7 @@ module _ (next prev place : List ℕ) (first f : ℕ) (kept : Kept next prev pla
       pub out-is : named (listOf next′) first ≡ dropped m f
       out-is = ap (λ l. named (listOf l) first) n-is
           ∙ named-dropped (listOf next) (listOf (set next (getD prev f 0) (getD next f 0))) first f
-              (unlink-list next prev place f kept n-long p-long long (let r = read in omega arith))
+          (unlink-list next prev place f kept n-long p-long long (let r = read in omega arith))
 
   module _ (free : 5 ≤ getD place f 0) where
     pub free-is : timesHeld m f ≡ 0
@@ -88,8 +88,8 @@ module _ (next prev place : List ℕ) (first f : ℕ) (kept : Kept next prev pla
       put : named (listOf n₂) first ≡ on queue m f
       put = ap (λ l. named (listOf l) first) n-in
           ∙ named-on (listOf next) (listOf (set (set next (getD prev (256 + number) 0) f) f (256 + number))) first f first< queue
-              (λ r r<. link-list next prev place number f kept n-long p-long long number< f< (let r = read in omega arith) r r<
-                ∙ ap (λ k. cond (eqb r k) (listOf next r ++ (f ∷ [])) (listOf next r)) q)
+          (λ r r<. link-list next prev place number f kept n-long p-long long number< f< (let r = read in omega arith) r r<
+          ∙ ap (λ k. cond (eqb r k) (listOf next r ++ (f ∷ [])) (listOf next r)) q)
 
       pub in-is : named (listOf n₂) first ≡ cond (eqb (timesHeld m f) 0) (on queue m f) m
       in-is = put ∙ sym (cond-true (eqb (timesHeld m f) 0) (on queue m f) m (sym free-yes))

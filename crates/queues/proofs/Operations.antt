@@ -7,7 +7,7 @@ use Prim.Native.Nat.{ℕ, zero, suc, _+_, _-_, _%_, _<_, _≤_}
 use native.Mathlib.Omega.{arith}
 use lib.Dec.{eqb, ltb}
 use lib.ListN.{length, getD, set, replicate}
-use Rattle.std.proofs.shelf.Lists.{getD-replicate, getD-past, getD-append-add, length-append, length-replicate}
+use Rattle.std.proofs.shelf.Lists.{getD-replicate, getD-past, getD-append-add, length-append, length-replicate, append-assoc, append-nil}
 use Rattle.std.proofs.shelf.Tests.{cases-eq, cases-lt, eq-eqb, ne-eqb, lt-ltb, le-ltb, cond-true, cond-false}
 use Rattle.std.specs.declared.option.Option.the-variants.{Some, None}
 use Rattle.frames.specs.Held.{timesIn, without}
@@ -62,11 +62,12 @@ module _ (next prev place : List ℕ) (q f : ℕ) (kept : Kept next prev place) 
 
   rings′ : (r : ℕ) → r < 5 → Ring next′ prev′ place′ r (lists′ r)
   rings′ r r< = elim (cases-eq r q) [
-      inl e ↦ subst (λ k. Ring next′ prev′ place′ k (lists′ k)) (sym e)
-          (subst (Ring next′ prev′ place′ q) (sym (cond-true (eqb q q) (listOf next q ++ (f ∷ [])) (listOf next q) (eq-eqb q q refl)))
-            (linked-this next prev place q f (listOf next q) n-long p-long long q< f< free (ring-of next prev place kept q q<)))
+    | inl e ↦ subst (λ k. Ring next′ prev′ place′ k (lists′ k)) (sym e)
+        (subst (Ring next′ prev′ place′ q) (sym (cond-true (eqb q q) (listOf next q ++ (f ∷ [])) (listOf next q) (eq-eqb q q refl)))
+        (linked-this next prev place q f (listOf next q) n-long p-long long q< f< free (ring-of next prev place kept q q<)))
     | inr ne ↦ subst (Ring next′ prev′ place′ r) (sym (cond-false (eqb r q) (listOf next r ++ (f ∷ [])) (listOf next r) (ne-eqb r q ne)))
-          (linked-other next prev place q f (listOf next q) n-long p-long long q< f< free (ring-of next prev place kept q q<) r (listOf next r) r< ne (ring-of next prev place kept r r<)) ]
+        (linked-other next prev place q f (listOf next q) n-long p-long long q< f< free (ring-of next prev place kept q q<) r (listOf next r) r< ne (ring-of next prev place kept r r<))
+  ]
 
   longs′ : (length next′ ≡ 261) × (length prev′ ≡ 261) × (length place′ ≡ 256)
   longs′ = linked-longs next prev place q f (listOf next q) n-long p-long long q< f< free (ring-of next prev place kept q q<)
@@ -97,13 +98,14 @@ module _ (next prev place : List ℕ) (f : ℕ) (kept : Kept next prev place) (n
 
   rest : (r : ℕ) → r < 5 → Ring nextₒ prevₒ placeₒ r (without f (listOf next r))
   rest r r< = elim (cases-eq r q) [
-      inl e ↦ subst (λ k. Ring nextₒ prevₒ placeₒ k (without f (listOf next k))) (sym e)
-          (subst (Ring nextₒ prevₒ placeₒ q) (sym (less-is next prev place q f (at .0) (listOf next q) n-long p-long long held (at .1) (at .2) (ring-of next prev place kept q held)))
-            (unlinked-this next prev place q f (at .0) (listOf next q) n-long p-long long held (at .1) (at .2) (ring-of next prev place kept q held)))
+    | inl e ↦ subst (λ k. Ring nextₒ prevₒ placeₒ k (without f (listOf next k))) (sym e)
+        (subst (Ring nextₒ prevₒ placeₒ q) (sym (less-is next prev place q f (at .0) (listOf next q) n-long p-long long held (at .1) (at .2) (ring-of next prev place kept q held)))
+        (unlinked-this next prev place q f (at .0) (listOf next q) n-long p-long long held (at .1) (at .2) (ring-of next prev place kept q held)))
     | inr ne ↦ subst (Ring nextₒ prevₒ placeₒ r)
-          (sym (without-none f (listOf next r)
-            (unlinked-none next prev place q f (at .0) (listOf next q) n-long p-long long held (at .1) (at .2) (ring-of next prev place kept q held) r (listOf next r) r< ne (ring-of next prev place kept r r<))))
-          (unlinked-other next prev place q f (at .0) (listOf next q) n-long p-long long held (at .1) (at .2) (ring-of next prev place kept q held) r (listOf next r) r< ne (ring-of next prev place kept r r<)) ]
+        (sym (without-none f (listOf next r)
+        (unlinked-none next prev place q f (at .0) (listOf next q) n-long p-long long held (at .1) (at .2) (ring-of next prev place kept q held) r (listOf next r) r< ne (ring-of next prev place kept r r<))))
+        (unlinked-other next prev place q f (at .0) (listOf next q) n-long p-long long held (at .1) (at .2) (ring-of next prev place kept q held) r (listOf next r) r< ne (ring-of next prev place kept r r<))
+  ]
 
   longsₒ : (length nextₒ ≡ 261) × (length prevₒ ≡ 261) × (length placeₒ ≡ 256)
   longsₒ = unlinked-longs next prev place q f (at .0) (listOf next q) n-long p-long long held (at .1) (at .2) (ring-of next prev place kept q held)
@@ -122,8 +124,8 @@ round n = omega arith
 pub named-dropped : (lists lists′ : ℕ → List ℕ) (first f : ℕ) → ((r : ℕ) → r < 5 → lists′ r ≡ without f (lists r)) → named lists′ first ≡ dropped (named lists first) f
 named-dropped lists lists′ first f h =
     five-same (named lists′ first) (dropped (named lists first) f)
-      (h ((first + 0) % 5) (round (first + 0))) (h ((first + 1) % 5) (round (first + 1))) (h ((first + 2) % 5) (round (first + 2)))
-      (h ((first + 3) % 5) (round (first + 3))) (h ((first + 4) % 5) (round (first + 4)))
+    (h ((first + 0) % 5) (round (first + 0))) (h ((first + 1) % 5) (round (first + 1))) (h ((first + 2) % 5) (round (first + 2)))
+    (h ((first + 3) % 5) (round (first + 3))) (h ((first + 4) % 5) (round (first + 4)))
 
 -- one queue with a frame more
 module _ (lists lists′ : ℕ → List ℕ) (first f : ℕ) (first< : first < 5) where
@@ -153,11 +155,11 @@ module _ (lists lists′ : ℕ → List ℕ) (first f : ℕ) (first< : first < 5
 pub named-turned : (lists : ℕ → List ℕ) (first : ℕ) → first < 5 → named lists ((first + 2) % 5) ≡ turned (named lists first)
 named-turned lists first h =
     five-same (named lists ((first + 2) % 5)) (turned (named lists first))
-      (ap lists (let e : ((first + 2) % 5 + 0) % 5 ≡ (first + 2) % 5 = omega arith in e))
-      (ap lists (let e : ((first + 2) % 5 + 1) % 5 ≡ (first + 3) % 5 = omega arith in e))
-      (ap lists (let e : ((first + 2) % 5 + 2) % 5 ≡ (first + 4) % 5 = omega arith in e))
-      (ap lists (let e : ((first + 2) % 5 + 3) % 5 ≡ (first + 0) % 5 = omega arith in e))
-      (ap lists (let e : ((first + 2) % 5 + 4) % 5 ≡ (first + 1) % 5 = omega arith in e))
+    (ap lists (let e : ((first + 2) % 5 + 0) % 5 ≡ (first + 2) % 5 = omega arith in e))
+    (ap lists (let e : ((first + 2) % 5 + 1) % 5 ≡ (first + 3) % 5 = omega arith in e))
+    (ap lists (let e : ((first + 2) % 5 + 2) % 5 ≡ (first + 4) % 5 = omega arith in e))
+    (ap lists (let e : ((first + 2) % 5 + 3) % 5 ≡ (first + 0) % 5 = omega arith in e))
+    (ap lists (let e : ((first + 2) % 5 + 4) % 5 ≡ (first + 1) % 5 = omega arith in e))
 
 -- how often a frame is held, by its place
 abbrev sign : ℕ → ℕ → ℕ
@@ -192,14 +194,18 @@ module _ (p first : ℕ) (p< : p < 5) (first< : first < 5) where
   -- a number of a queue is one of the five names' numbers
   one-of-five : sign p n0 + sign p n1 + sign p n2 + sign p n3 + sign p n4 ≡ 1
   one-of-five = elim (cases-eq p n0) [
-      inl e ↦ (let o = only p n0 n1 n2 n3 n4 e (λ z. omega arith) (λ z. omega arith) (λ z. omega arith) (λ z. omega arith) in omega arith)
+    | inl e ↦ (let o = only p n0 n1 n2 n3 n4 e (λ z. omega arith) (λ z. omega arith) (λ z. omega arith) (λ z. omega arith) in omega arith)
     | inr a ↦ (elim (cases-eq p n1) [
-          inl e ↦ (let o = only p n1 n0 n2 n3 n4 e a (λ z. omega arith) (λ z. omega arith) (λ z. omega arith) in omega arith)
-        | inr b ↦ (elim (cases-eq p n2) [
-              inl e ↦ (let o = only p n2 n0 n1 n3 n4 e a b (λ z. omega arith) (λ z. omega arith) in omega arith)
-            | inr c ↦ (elim (cases-eq p n3) [
-                  inl e ↦ (let o = only p n3 n0 n1 n2 n4 e a b c (λ z. omega arith) in omega arith)
-                | inr d ↦ (let e : p ≡ n4 = omega arith in let o = only p n4 n0 n1 n2 n3 e a b c d in omega arith) ]) ]) ]) ]
+      | inl e ↦ (let o = only p n1 n0 n2 n3 n4 e a (λ z. omega arith) (λ z. omega arith) (λ z. omega arith) in omega arith)
+      | inr b ↦ (elim (cases-eq p n2) [
+        | inl e ↦ (let o = only p n2 n0 n1 n3 n4 e a b (λ z. omega arith) (λ z. omega arith) in omega arith)
+        | inr c ↦ (elim (cases-eq p n3) [
+          | inl e ↦ (let o = only p n3 n0 n1 n2 n4 e a b c (λ z. omega arith) in omega arith)
+          | inr d ↦ (let e : p ≡ n4 = omega arith in let o = only p n4 n0 n1 n2 n3 e a b c d in omega arith)
+        ])
+      ])
+    ])
+  ]
 
 module _ (next place : List ℕ) (first f : ℕ) (first< : first < 5) (placed : Placed next place) where
   abbrev m : Five
@@ -232,7 +238,7 @@ module _ (next place : List ℕ) (first f : ℕ) (first< : first < 5) (placed : 
 pub dropped-none : (m : Five) (f : ℕ) → timesHeld m f ≡ 0 → m ≡ dropped m f
 dropped-none m f z =
     five-same m (dropped m f) (sym (without-none f (m .q00) (omega arith))) (sym (without-none f (m .q01) (omega arith))) (sym (without-none f (m .q10) (omega arith)))
-      (sym (without-none f (m .q11) (omega arith))) (sym (without-none f (m .hq) (omega arith)))
+    (sym (without-none f (m .q11) (omega arith))) (sym (without-none f (m .hq) (omega arith)))
 
 -- the queues of a fresh value, each end mark linked to itself
 abbrev pub fresh : List ℕ
@@ -280,15 +286,16 @@ module _ (next prev place : List ℕ) (n : next ≡ fresh) (p : prev ≡ fresh) 
   fresh-named first =
       let h = list-is next prev place fresh-long (λ q. []) fresh-ring in
       five-same (named (listOf next) first) empty
-        (h ((first + 0) % 5) (round (first + 0))) (h ((first + 1) % 5) (round (first + 1))) (h ((first + 2) % 5) (round (first + 2)))
-        (h ((first + 3) % 5) (round (first + 3))) (h ((first + 4) % 5) (round (first + 4)))
+      (h ((first + 0) % 5) (round (first + 0))) (h ((first + 1) % 5) (round (first + 1))) (h ((first + 2) % 5) (round (first + 2)))
+      (h ((first + 3) % 5) (round (first + 3))) (h ((first + 4) % 5) (round (first + 4)))
 
 -- the head of a queue
 walk-head : (n : ℕ) (next : List ℕ) (node : ℕ) → headOf (walk (suc n) next node) ≡ cond (ltb node 256) (Some node) None
 unfolding walk
 walk-head n next node = elim (cases-lt node 256) [
-    inl h ↦ ap headOf (cond-true (ltb node 256) (node ∷ walk n next (getD next node 0)) [] (lt-ltb node 256 h)) ∙ sym (cond-true (ltb node 256) (Some node) None (lt-ltb node 256 h))
-  | inr g ↦ ap headOf (cond-false (ltb node 256) (node ∷ walk n next (getD next node 0)) [] (le-ltb node 256 g)) ∙ sym (cond-false (ltb node 256) (Some node) None (le-ltb node 256 g)) ]
+  | inl h ↦ ap headOf (cond-true (ltb node 256) (node ∷ walk n next (getD next node 0)) [] (lt-ltb node 256 h)) ∙ sym (cond-true (ltb node 256) (Some node) None (lt-ltb node 256 h))
+  | inr g ↦ ap headOf (cond-false (ltb node 256) (node ∷ walk n next (getD next node 0)) [] (le-ltb node 256 g)) ∙ sym (cond-false (ltb node 256) (Some node) None (le-ltb node 256 g))
+]
 
 pub named-at : (lists : ℕ → List ℕ) (first : ℕ) (queue : Queue) → framesOf (named lists first) queue ≡ lists ((first + numberOf queue) % 5)
 named-at lists first Q00 = refl
@@ -306,3 +313,39 @@ module _ (next : List ℕ) (first node : ℕ) (queue : Queue) (is : node ≡ get
 
   pub head-none : 256 ≤ node → None ≡ headOf (framesOf (named (listOf next) first) queue)
   head-none h = sym (head-is ∙ cond-false (ltb node 256) (Some node) None (le-ltb node 256 h))
+
+-- the walk through a queue, frame by frame
+module _ (next : List ℕ) (node : ℕ) (done all : List ℕ) where
+  walk-step : (n : ℕ) → node < 256 → walk (suc n) next node ≡ node ∷ walk n next (getD next node 0)
+  unfolding walk
+  walk-step n h = cond-true (ltb node 256) (node ∷ walk n next (getD next node 0)) [] (lt-ltb node 256 h)
+
+  walk-stop : (n : ℕ) → 256 ≤ node → walk n next node ≡ []
+  unfolding walk
+  walk-stop zero h = refl
+  walk-stop (suc n) h = cond-false (ltb node 256) (node ∷ walk n next (getD next node 0)) [] (le-ltb node 256 h)
+
+  walk-over : (n : ℕ) → n ≡ 0 → walk n next node ≡ []
+  unfolding walk
+  walk-over zero e = refl
+  walk-over (suc n) e = absurd (omega arith)
+
+  pub listed-more : (left node′ : ℕ) (done′ : List ℕ) → 0 < left → node < 256 → node′ ≡ getD next node 0 → done′ ≡ done ++ (node ∷ [])
+      → done ++ walk left next node ≡ all → done′ ++ walk (left - 1) next node′ ≡ all
+  listed-more left node′ done′ some h e d inv =
+      let is : left ≡ suc (left - 1) = omega arith in
+      ap (λ l. l ++ walk (left - 1) next node′) d ∙ append-assoc done (node ∷ []) (walk (left - 1) next node′)
+      ∙ ap (λ k. done ++ (node ∷ walk (left - 1) next k)) e
+      ∙ ap (λ l. done ++ l) (sym (walk-step (left - 1) h)) ∙ ap (λ k. done ++ walk k next node) (sym is) ∙ inv
+
+  pub listed-all : (left : ℕ) → 256 ≤ node → done ++ walk left next node ≡ all → done ≡ all
+  listed-all left h inv = sym (append-nil done) ∙ ap (λ l. done ++ l) (sym (walk-stop left h)) ∙ inv
+
+  pub listed-over : (left : ℕ) → left ≤ 0 → done ++ walk left next node ≡ all → done ≡ all
+  listed-over left h inv = sym (append-nil done) ∙ ap (λ l. done ++ l) (sym (walk-over left (omega arith))) ∙ inv
+
+-- at the start
+pub listed-none : (next : List ℕ) (first node : ℕ) (queue : Queue) (done : List ℕ) → done ≡ [] → node ≡ getD next (256 + (first + numberOf queue) % 5) 0
+    → done ++ walk 256 next node ≡ framesOf (named (listOf next) first) queue
+listed-none next first node queue done e is =
+    ap (λ l. l ++ walk 256 next node) e ∙ ap (walk 256 next) is ∙ sym (named-at (listOf next) first queue)

@@ -21,8 +21,9 @@ use Rattle.queues.proofs.Operations.{held-none, held-once, dropped-none}
 -- a value of the type holds each frame at most once
 pub good-of : (next place : List ℕ) (first : ℕ) → length place ≡ 256 → first < 5 → Placed next place → Good (named (listOf next) first)
 good-of next place first long first< placed f = elim (cases-lt (getD place f 5) 5) [
-    inl h ↦ (let t = held-once next place first f first< placed h in (omega arith, λ big. absurd (omega (arith, getD-past place f 5 (omega arith)))))
-  | inr h ↦ (let t = held-none next place first f first< placed h in (omega arith, λ big. t)) ]
+  | inl h ↦ (let t = held-once next place first f first< placed h in (omega arith, λ big. absurd (omega (arith, getD-past place f 5 (omega arith)))))
+  | inr h ↦ (let t = held-none next place first f first< placed h in (omega arith, λ big. t))
+]
 
 -- a number above 255
 pub big-free : (m : Five) (f : ℕ) → 255 < f → false ≡ freeIn m f

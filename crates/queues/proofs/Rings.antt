@@ -34,8 +34,9 @@ apart (x ∷ xs) o (suc i) (suc j) hi hj e = ap suc (apart xs (λ f. omega (arit
 pub somewhere : (f : ℕ) (xs : List ℕ) → 1 ≤ timesIn f xs → (k : ℕ) × (k < length xs) × (getD xs k 0 ≡ f)
 somewhere f [] h = absurd (omega arith)
 somewhere f (x ∷ xs) h = elim (cases-eq x f) [
-    inl e ↦ (0, omega arith, e)
-  | inr ne ↦ (let s = share-other x f ne in let t = somewhere f xs (omega arith) in (suc (t .0), omega (arith, t .1), t .2)) ]
+  | inl e ↦ (0, omega arith, e)
+  | inr ne ↦ (let s = share-other x f ne in let t = somewhere f xs (omega arith) in (suc (t .0), omega (arith, t .1), t .2))
+]
 
 -- a node of the queue q: a frame placed there, or its end mark
 abbrev pub Owned : List ℕ → ℕ → ℕ → Type 0
@@ -51,13 +52,15 @@ owned-same place q r n m q< r< (inr a) (inr b) e = omega arith
 module _ (next prev place : List ℕ) (q : ℕ) (xs : List ℕ) (long : length place ≡ 256) (q< : q < 5) (ring : Ring next prev place q xs) where
   pub single : (f : ℕ) → timesIn f xs ≤ 1
   single f = elim (cases-bool (eqb (getD place f 5) q)) [
-      inl y ↦ omega (arith, ring .placed f, cond-true {A = ℕ} (eqb (getD place f 5) q) 1 0 y)
-    | inr n ↦ omega (arith, ring .placed f, cond-false {A = ℕ} (eqb (getD place f 5) q) 1 0 n) ]
+    | inl y ↦ omega (arith, ring .placed f, cond-true {A = ℕ} (eqb (getD place f 5) q) 1 0 y)
+    | inr n ↦ omega (arith, ring .placed f, cond-false {A = ℕ} (eqb (getD place f 5) q) 1 0 n)
+  ]
 
   pub in-place : (i : ℕ) → i < length xs → getD place (getD xs i 0) 5 ≡ q
   in-place i h = elim (cases-bool (eqb (getD place (getD xs i 0) 5) q)) [
-      inl y ↦ eqb-true _ _ y
-    | inr n ↦ absurd (let t = times-at xs i h in omega (arith, ring .placed (getD xs i 0), cond-false {A = ℕ} (eqb (getD place (getD xs i 0) 5) q) 1 0 n)) ]
+    | inl y ↦ eqb-true _ _ y
+    | inr n ↦ absurd (let t = times-at xs i h in omega (arith, ring .placed (getD xs i 0), cond-false {A = ℕ} (eqb (getD place (getD xs i 0) 5) q) 1 0 n))
+  ]
 
   placed-below : (f : ℕ) → getD place f 5 < 5 → f < 256
   placed-below f h = elim (cases-lt f 256) [ inl l ↦ l | inr g ↦ absurd (omega (arith, getD-past place f 5 (omega arith))) ]
@@ -77,8 +80,9 @@ module _ (next prev place : List ℕ) (q : ℕ) (xs : List ℕ) (long : length p
   -- each node is the queue's own
   pub owned-behind : (i : ℕ) → i ≤ length xs → Owned place q (nodeAt xs q (suc i))
   owned-behind i h = elim (cases-lt i (length xs)) [
-      inl l ↦ (let e = node-in i l in inl (omega (arith, below i l), ap (λ k. getD place k 5) e ∙ in-place i l))
-    | inr g ↦ inr (node-end i (omega arith)) ]
+    | inl l ↦ (let e = node-in i l in inl (omega (arith, below i l), ap (λ k. getD place k 5) e ∙ in-place i l))
+    | inr g ↦ inr (node-end i (omega arith))
+  ]
 
   pub owned : (i : ℕ) → i ≤ length xs → Owned place q (nodeAt xs q i)
   owned zero h = inr refl
@@ -87,12 +91,15 @@ module _ (next prev place : List ℕ) (q : ℕ) (xs : List ℕ) (long : length p
   -- two nodes before the last are the same at one place alone, and so are two behind the first
   pub behind-apart : (i j : ℕ) → i ≤ length xs → j ≤ length xs → nodeAt xs q (suc i) ≡ nodeAt xs q (suc j) → i ≡ j
   behind-apart i j hi hj e = elim (cases-lt i (length xs)) [
-      inl a ↦ (elim (cases-lt j (length xs)) [
-          inl b ↦ apart xs single i j a b (sym (node-in i a) ∙ e ∙ node-in j b)
-        | inr b ↦ absurd (let m = node-end j (omega arith) in let n = node-in i a in omega (arith, below i a, e)) ])
+    | inl a ↦ (elim (cases-lt j (length xs)) [
+      | inl b ↦ apart xs single i j a b (sym (node-in i a) ∙ e ∙ node-in j b)
+      | inr b ↦ absurd (let m = node-end j (omega arith) in let n = node-in i a in omega (arith, below i a, e))
+    ])
     | inr a ↦ (elim (cases-lt j (length xs)) [
-          inl b ↦ absurd (let m = node-end i (omega arith) in let n = node-in j b in omega (arith, below j b, e))
-        | inr b ↦ omega arith ]) ]
+      | inl b ↦ absurd (let m = node-end i (omega arith) in let n = node-in j b in omega (arith, below j b, e))
+      | inr b ↦ omega arith
+    ])
+  ]
 
   pub before-apart : (i j : ℕ) → i ≤ length xs → j ≤ length xs → nodeAt xs q i ≡ nodeAt xs q j → i ≡ j
   before-apart zero zero hi hj e = refl
@@ -105,15 +112,16 @@ module _ (next prev place : List ℕ) (q : ℕ) (xs : List ℕ) (long : length p
   unfolding walk
   walk-from zero j h k = sym (drop-all j xs (omega arith))
   walk-from (suc n) j h k = elim (cases-lt j (length xs)) [
-      inl l ↦ (let e = node-in j l in let b = below j l in
-              cond-true (ltb (nodeAt xs q (suc j)) 256) (nodeAt xs q (suc j) ∷ walk n next (getD next (nodeAt xs q (suc j)) 0)) [] (lt-ltb _ _ (omega arith))
-              ∙ ap (λ k. nodeAt xs q (suc j) ∷ walk n next k) (ring .forward (suc j) (omega arith))
-              ∙ ap (λ l. nodeAt xs q (suc j) ∷ l) (walk-from n (suc j) (omega arith) (omega arith))
-              ∙ ap (λ k. k ∷ drop (suc j) xs) e
-              ∙ sym (drop-more xs j 0 l ∙ ap (λ k. getD xs j 0 ∷ drop k xs) (add-one j)))
+    | inl l ↦ (let e = node-in j l in let b = below j l in
+        cond-true (ltb (nodeAt xs q (suc j)) 256) (nodeAt xs q (suc j) ∷ walk n next (getD next (nodeAt xs q (suc j)) 0)) [] (lt-ltb _ _ (omega arith))
+        ∙ ap (λ k. nodeAt xs q (suc j) ∷ walk n next k) (ring .forward (suc j) (omega arith))
+        ∙ ap (λ l. nodeAt xs q (suc j) ∷ l) (walk-from n (suc j) (omega arith) (omega arith))
+        ∙ ap (λ k. k ∷ drop (suc j) xs) e
+        ∙ sym (drop-more xs j 0 l ∙ ap (λ k. getD xs j 0 ∷ drop k xs) (add-one j)))
     | inr g ↦ (let e = node-end j (omega arith) in
-              cond-false (ltb (nodeAt xs q (suc j)) 256) (nodeAt xs q (suc j) ∷ walk n next (getD next (nodeAt xs q (suc j)) 0)) [] (le-ltb _ _ (omega arith))
-              ∙ sym (drop-all j xs (omega arith))) ]
+        cond-false (ltb (nodeAt xs q (suc j)) 256) (nodeAt xs q (suc j) ∷ walk n next (getD next (nodeAt xs q (suc j)) 0)) [] (le-ltb _ _ (omega arith))
+        ∙ sym (drop-all j xs (omega arith)))
+  ]
 
   pub walked : listOf next q ≡ xs
   walked =

@@ -22,8 +22,8 @@ ring-removed : (xs : List ℕ) (q k : ℕ) → k < length xs
     → (256 + q) ∷ (removed xs k ++ ((256 + q) ∷ [])) ≡ removed ((256 + q) ∷ (xs ++ ((256 + q) ∷ []))) (suc k)
 ring-removed xs q k h =
     ap (λ l. (256 + q) ∷ l) (append-assoc (take k xs) (drop (suc k) xs) ((256 + q) ∷ [])
-      ∙ ap (λ l. l ++ (drop (suc k) xs ++ ((256 + q) ∷ []))) (sym (take-append-le k xs ((256 + q) ∷ []) (omega arith)))
-      ∙ ap (λ l. take k (xs ++ ((256 + q) ∷ [])) ++ l) (sym (drop-append-le (suc k) xs ((256 + q) ∷ []) (omega arith))))
+    ∙ ap (λ l. l ++ (drop (suc k) xs ++ ((256 + q) ∷ []))) (sym (take-append-le k xs ((256 + q) ∷ []) (omega arith)))
+    ∙ ap (λ l. take k (xs ++ ((256 + q) ∷ [])) ++ l) (sym (drop-append-le (suc k) xs ((256 + q) ∷ []) (omega arith))))
 
 -- The frame f, at place k of the frames xs of the queue q, is taken out.
 module _ (next prev place : List ℕ) (q f k : ℕ) (xs : List ℕ) (n-long : length next ≡ 261) (p-long : length prev ≡ 261) (long : length place ≡ 256)
@@ -115,31 +115,36 @@ module _ (next prev place : List ℕ) (q f k : ℕ) (xs : List ℕ) (n-long : le
   pub unlinked-this : Ring nextₒ prevₒ placeₒ q less
   unlinked-this = record {
     placed = λ g. ap (timesIn g) (sym less-is) ∙ (elim (cases-eq g f) [
-        inl e ↦ ap (λ n. timesIn n (without f xs)) e ∙ without-same f xs
-            ∙ sym (cond-false {A = ℕ} (eqb (getD placeₒ g 5) q) 1 0 (ne-eqb _ _ (λ z. omega (arith, place-gone, ap (λ n. getD placeₒ n 5) e))))
-      | inr ne ↦ without-other f g xs ne ∙ ring .placed g ∙ ap (λ n. cond (eqb n q) 1 0) (sym (place-other g ne)) ]);
+      | inl e ↦ ap (λ n. timesIn n (without f xs)) e ∙ without-same f xs
+          ∙ sym (cond-false {A = ℕ} (eqb (getD placeₒ g 5) q) 1 0 (ne-eqb _ _ (λ z. omega (arith, place-gone, ap (λ n. getD placeₒ n 5) e))))
+      | inr ne ↦ without-other f g xs ne ∙ ring .placed g ∙ ap (λ n. cond (eqb n q) 1 0) (sym (place-other g ne))
+    ]);
     forward = λ i h. elim (cases-lt i k) [
-        inl l ↦ ap (λ n. getD nextₒ n 0) (less-below i (omega arith))
-            ∙ next-other (nodeAt xs q i) (λ t. omega (arith, before-apart next prev place q xs long q< ring i k (omega arith) (omega arith) (t ∙ before-is)))
-            ∙ ring .forward i (omega arith) ∙ sym (less-below (suc i) (omega arith))
+      | inl l ↦ ap (λ n. getD nextₒ n 0) (less-below i (omega arith))
+          ∙ next-other (nodeAt xs q i) (λ t. omega (arith, before-apart next prev place q xs long q< ring i k (omega arith) (omega arith) (t ∙ before-is)))
+          ∙ ring .forward i (omega arith) ∙ sym (less-below (suc i) (omega arith))
       | inr g ↦ (elim (cases-eq i k) [
-            inl e ↦ ap (λ n. getD nextₒ n 0) (less-below i (omega arith) ∙ ap (nodeAt xs q) e ∙ sym before-is) ∙ next-before ∙ behind-is
-                ∙ ap (λ n. nodeAt xs q (suc (suc n))) (sym e) ∙ sym (less-above (suc i) (omega arith))
-          | inr ne ↦ (let l = less-long in
-                ap (λ n. getD nextₒ n 0) (less-above i (omega arith))
-                ∙ next-other (nodeAt xs q (suc i)) (λ t. omega (arith, before-apart next prev place q xs long q< ring (suc i) k (omega arith) (omega arith) (t ∙ before-is)))
-                ∙ ring .forward (suc i) (omega arith) ∙ sym (less-above (suc i) (omega arith))) ]) ];
+        | inl e ↦ ap (λ n. getD nextₒ n 0) (less-below i (omega arith) ∙ ap (nodeAt xs q) e ∙ sym before-is) ∙ next-before ∙ behind-is
+            ∙ ap (λ n. nodeAt xs q (suc (suc n))) (sym e) ∙ sym (less-above (suc i) (omega arith))
+        | inr ne ↦ (let l = less-long in
+            ap (λ n. getD nextₒ n 0) (less-above i (omega arith))
+            ∙ next-other (nodeAt xs q (suc i)) (λ t. omega (arith, before-apart next prev place q xs long q< ring (suc i) k (omega arith) (omega arith) (t ∙ before-is)))
+            ∙ ring .forward (suc i) (omega arith) ∙ sym (less-above (suc i) (omega arith)))
+      ])
+    ];
     backward = λ i h. elim (cases-lt i k) [
-        inl l ↦ ap (λ n. getD prevₒ n 0) (less-below (suc i) (omega arith))
-            ∙ prev-other (nodeAt xs q (suc i)) (λ t. omega (arith, behind-apart next prev place q xs long q< ring i (suc k) (omega arith) (omega arith) (t ∙ behind-is)))
-            ∙ ring .backward i (omega arith) ∙ sym (less-below i (omega arith))
+      | inl l ↦ ap (λ n. getD prevₒ n 0) (less-below (suc i) (omega arith))
+          ∙ prev-other (nodeAt xs q (suc i)) (λ t. omega (arith, behind-apart next prev place q xs long q< ring i (suc k) (omega arith) (omega arith) (t ∙ behind-is)))
+          ∙ ring .backward i (omega arith) ∙ sym (less-below i (omega arith))
       | inr g ↦ (elim (cases-eq i k) [
-            inl e ↦ ap (λ n. getD prevₒ n 0) (less-above (suc i) (omega arith) ∙ ap (λ n. nodeAt xs q (suc (suc n))) e ∙ sym behind-is) ∙ prev-behind ∙ before-is
-                ∙ ap (nodeAt xs q) (sym e) ∙ sym (less-below i (omega arith))
-          | inr ne ↦ (let l = less-long in
-                ap (λ n. getD prevₒ n 0) (less-above (suc i) (omega arith))
-                ∙ prev-other (nodeAt xs q (suc (suc i))) (λ t. omega (arith, behind-apart next prev place q xs long q< ring (suc i) (suc k) (omega arith) (omega arith) (t ∙ behind-is)))
-                ∙ ring .backward (suc i) (omega arith) ∙ sym (less-above i (omega arith))) ]) ];
+        | inl e ↦ ap (λ n. getD prevₒ n 0) (less-above (suc i) (omega arith) ∙ ap (λ n. nodeAt xs q (suc (suc n))) e ∙ sym behind-is) ∙ prev-behind ∙ before-is
+            ∙ ap (nodeAt xs q) (sym e) ∙ sym (less-below i (omega arith))
+        | inr ne ↦ (let l = less-long in
+            ap (λ n. getD prevₒ n 0) (less-above (suc i) (omega arith))
+            ∙ prev-other (nodeAt xs q (suc (suc i))) (λ t. omega (arith, behind-apart next prev place q xs long q< ring (suc i) (suc k) (omega arith) (omega arith) (t ∙ behind-is)))
+            ∙ ring .backward (suc i) (omega arith) ∙ sym (less-above i (omega arith)))
+      ])
+    ];
   }
 
   -- every other queue is as it was
@@ -150,9 +155,10 @@ module _ (next prev place : List ℕ) (q f k : ℕ) (xs : List ℕ) (n-long : le
     pub unlinked-other : Ring nextₒ prevₒ placeₒ r ys
     unlinked-other = record {
       placed = λ g. elim (cases-eq g f) [
-          inl e ↦ ap (λ n. timesIn n ys) e ∙ unlinked-none
-              ∙ sym (cond-false {A = ℕ} (eqb (getD placeₒ g 5) r) 1 0 (ne-eqb _ _ (λ z. omega (arith, place-gone, ap (λ n. getD placeₒ n 5) e))))
-        | inr ne ↦ other .placed g ∙ ap (λ n. cond (eqb n r) 1 0) (sym (place-other g ne)) ];
+        | inl e ↦ ap (λ n. timesIn n ys) e ∙ unlinked-none
+            ∙ sym (cond-false {A = ℕ} (eqb (getD placeₒ g 5) r) 1 0 (ne-eqb _ _ (λ z. omega (arith, place-gone, ap (λ n. getD placeₒ n 5) e))))
+        | inr ne ↦ other .placed g ∙ ap (λ n. cond (eqb n r) 1 0) (sym (place-other g ne))
+      ];
       forward = λ i h.
           next-other (nodeAt ys r i) (λ t. r≢ (owned-same place r q (nodeAt ys r i) before r< q< (owned next prev place r ys long r< other i h) before-owned t)) ∙ other .forward i h;
       backward = λ i h.

@@ -77,19 +77,22 @@ module _ (marks : List ℕ) (f : ℕ) where
 
   off-none : bonus off f ≡ 0
   off-none = elim (cases-lt f (length marks)) [
-      inl h ↦ bonus-off off f (ap referred (getD-set-same marks f (referenceOff (getD marks f 0)) 0 h) ∙ off-referred (getD marks f 0))
-    | inr g ↦ bonus-off off f (ap (λ l. referred (getD l f 0)) (set-past marks f (referenceOff (getD marks f 0)) g) ∙ ap referred (getD-past marks f 0 g)) ]
+    | inl h ↦ bonus-off off f (ap referred (getD-set-same marks f (referenceOff (getD marks f 0)) 0 h) ∙ off-referred (getD marks f 0))
+    | inr g ↦ bonus-off off f (ap (λ l. referred (getD l f 0)) (set-past marks f (referenceOff (getD marks f 0)) g) ∙ ap referred (getD-past marks f 0 g))
+  ]
 
   off-less : (x : ℕ) → bonus off x ≤ bonus marks x
   off-less x = elim (cases-eq x f) [
-      inl e ↦ (let n = off-none in omega (arith, ap (bonus off) e))
-    | inr ne ↦ omega (arith, ap {B = ℕ} (λ k. cond (referred k) 2 0) (getD-set-other marks f x (referenceOff (getD marks f 0)) 0 ne)) ]
+    | inl e ↦ (let n = off-none in omega (arith, ap (bonus off) e))
+    | inr ne ↦ omega (arith, ap {B = ℕ} (λ k. cond (referred k) 2 0) (getD-set-other marks f x (referenceOff (getD marks f 0)) 0 ne))
+  ]
 
   weigh-off : (w : ℕ) (xs : List ℕ) → weigh off w (without f xs) ≤ weigh marks w xs
   weigh-off w [] = omega arith
   weigh-off w (x ∷ xs) = elim (cases-eq x f) [
-      inl e ↦ omega (arith, ap (weigh off w) (without-first f x xs e), weigh-off w xs)
-    | inr ne ↦ omega (arith, ap (weigh off w) (without-later f x xs ne), weigh-off w xs, off-less x) ]
+    | inl e ↦ omega (arith, ap (weigh off w) (without-first f x xs e), weigh-off w xs)
+    | inr ne ↦ omega (arith, ap (weigh off w) (without-later f x xs ne), weigh-off w xs, off-less x)
+  ]
 
   weigh-head : (w : ℕ) (xs : List ℕ) → weigh off w (without f (f ∷ xs)) ≤ weigh marks w xs
   weigh-head w xs = omega (arith, ap (weigh off w) (without-first f f xs refl), weigh-off w xs)
@@ -152,7 +155,7 @@ five-same m n a b c d e =
 pub is-empty : (m : Five) → size m ≡ 0 → m ≡ empty
 is-empty m z =
     five-same m empty (nil-from-length (m .q00) (omega arith)) (nil-from-length (m .q01) (omega arith)) (nil-from-length (m .q10) (omega arith))
-      (nil-from-length (m .q11) (omega arith)) (nil-from-length (m .hq) (omega arith))
+    (nil-from-length (m .q11) (omega arith)) (nil-from-length (m .hq) (omega arith))
 
 empty-steps : (n : ℕ) (marks : List ℕ) → steps n empty marks ≡ record { frame = None; keys = marks; left = empty }
 unfolding steps
@@ -180,8 +183,10 @@ pub settle : (n k : ℕ) (m : Five) (marks : List ℕ) → weight m marks ≤ n 
 settle zero k m marks a b = let s = size-weight m marks in none-steps zero m marks (omega arith) ∙ sym (none-steps k m marks (omega arith))
 settle (suc n) zero m marks a b = let s = size-weight m marks in none-steps (suc n) m marks (omega arith) ∙ sym (none-steps zero m marks (omega arith))
 settle (suc n) (suc k) m marks a b = elim (cases-lt 0 (size m)) [
-    inr z ↦ none-steps (suc n) m marks (omega arith) ∙ sym (none-steps (suc k) m marks (omega arith))
+  | inr z ↦ none-steps (suc n) m marks (omega arith) ∙ sym (none-steps (suc k) m marks (omega arith))
   | inl h ↦ (elim (cases-step (step m marks .frame)) [
-        inr y ↦ step-first n m marks (y .0) (y .1) ∙ sym (step-first k m marks (y .0) (y .1))
-      | inl e ↦ (let l = step-less m marks h e in
-                step-on n m marks e ∙ settle n k (step m marks .left) (step m marks .keys) (omega arith) (omega arith) ∙ sym (step-on k m marks e)) ]) ]
+    | inr y ↦ step-first n m marks (y .0) (y .1) ∙ sym (step-first k m marks (y .0) (y .1))
+    | inl e ↦ (let l = step-less m marks h e in
+        step-on n m marks e ∙ settle n k (step m marks .left) (step m marks .keys) (omega arith) (omega arith) ∙ sym (step-on k m marks e))
+  ])
+]

@@ -19,7 +19,10 @@ impl Chain {
     pub fn new() -> Chain
         ensures { λ r. ⌜ r .frames ++ r .ends ≡ replicate 256 0 ++ (256 ∷ (257 ∷ (258 ∷ (259 ∷ (260 ∷ []))))) ⌝ }
     {
-        Chain { frames: [0; 256], ends: [256, 257, 258, 259, 260] }
+        Chain {
+            frames: [0; 256],
+            ends: [256, 257, 258, 259, 260],
+        }
     }
 
     // Where the link of a node leads.
@@ -29,7 +32,7 @@ impl Chain {
         if node < 256 {
             self.frames[node as usize]
         } else if node < 261 {
-            self.ends[node as usize - 256]
+            self.ends[(node - 256) as usize]
         } else {
             0
         }

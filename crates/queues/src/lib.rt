@@ -4,6 +4,7 @@ mod five;
 mod moves;
 mod policy;
 mod queue;
+
 pub use five::FiveQueues;
 pub use policy::FiveQueuesPolicy;
 pub use queue::Queue;

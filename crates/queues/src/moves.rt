@@ -5,13 +5,18 @@ ghost use mathlib.Core.Path.{_≡_};
 ghost use lib.Dec.{eqb, ltb};
 ghost use lib.ListN.{getD};
 ghost use Rattle.frames.specs.Keys.{referred, changed};
-ghost use Rattle.queues.specs.Five.{empty, timesHeld, size, dropped, on, turned, step as stepOf};
+ghost use Rattle.queues.specs.Five.{empty, timesHeld, size, dropped, on, turned, step as stepOf, taken};
+ghost use Rattle.queues.specs.Laws.{TakeLaws};
+ghost use Rattle.std.specs.Of.Vec.{vec-items};
+ghost use Rattle.std.specs.Vec.{made};
 ghost use Rattle.queues.specs.Five.{seen-q00 as seenFirst, seen-q01 as seenSecond, marked-off as markedOff};
 ghost use Rattle.queues.specs.Model.{modelOf};
 ghost use Rattle.queues.specs.Names.{numberOf, framesOf, headOf};
 use super::chain::Chain;
 use super::five::FiveQueues;
 use super::queue::Queue;
+use std::alloc::AllocError;
+use std::alloc::Global;
 
 // what the table of places has for a frame in no queue
 const NONE: u8 = 5;
@@ -24,7 +29,12 @@ impl FiveQueues {
     pub fn new() -> FiveQueues
         ensures { λ r. ⌜ modelOf r ≡ empty ⌝ }
     {
-        FiveQueues { next: Chain::new(), prev: Chain::new(), place: [NONE; 256], first: 0 }
+        FiveQueues {
+            next: Chain::new(),
+            prev: Chain::new(),
+            place: [NONE; 256],
+            first: 0,
+        }
     }
 
     // The number that a queue has at present.
@@ -94,14 +104,14 @@ impl FiveQueues {
     }
 
     // The names turn: Q10 becomes Q00, HQ becomes Q10, Q01 becomes HQ, Q11 becomes Q01, Q00 becomes Q11.
-    pub(crate) fn turn_names(&mut self)
+    fn turn_names(&mut self)
         ensures { λ _. ⌜ modelOf (now (self .exit)) ≡ turned (modelOf (now (self .entry))) ⌝ }
     {
         self.first = (self.first + 2) % 5;
     }
 
     // Whether a frame is held.
-    pub(crate) fn any(&self) -> bool
+    fn any(&self) -> bool
         ensures { λ r. ⌜ r ≡ ltb 0 (size (modelOf (now (self .entry)))) ⌝ }
     {
         self.head(Queue::Q00).is_some()
@@ -156,7 +166,7 @@ impl FiveQueues {
     }
 
     // One step of Take: a look at the head of Q00, or of Q01 where Q00 is empty, or a turn of the names.
-    pub(crate) fn step(&mut self, keys: &mut [u8; 256]) -> Option<u8>
+    fn step(&mut self, keys: &mut [u8; 256]) -> Option<u8>
         ensures answer { λ r. ⌜ r ≡ stepOf (modelOf (now (self .entry))) (now (keys .entry)) .frame ⌝ }
         ensures marks { λ _. ⌜ now (keys .exit) ≡ stepOf (modelOf (now (self .entry))) (now (keys .entry)) .keys ⌝ }
         ensures after { λ _. ⌜ modelOf (now (self .exit)) ≡ stepOf (modelOf (now (self .entry))) (now (keys .entry)) .left ⌝ }
@@ -171,6 +181,40 @@ impl FiveQueues {
                 }
             },
         }
+    }
+
+    // Takes a frame: a step after another, until one takes a frame or none is held.
+    pub fn pick(&mut self, keys: &mut [u8; 256]) -> Option<u8>
+        ensures answer { λ r. ⌜ r ≡ taken (modelOf (now (self .entry))) (now (keys .entry)) .frame ⌝ }
+        ensures marks { λ _. ⌜ now (keys .exit) ≡ taken (modelOf (now (self .entry))) (now (keys .entry)) .keys ⌝ }
+        ensures after { λ _. ⌜ modelOf (now (self .exit)) ≡ taken (modelOf (now (self .entry))) (now (keys .entry)) .left ⌝ }
+        ensures laws { λ r. ⌜ TakeLaws (modelOf (now (self .entry))) (now (keys .entry)) r (now (keys .exit)) (modelOf (now (self .exit))) ⌝ }
+    {
+        while self.any() {
+            match self.step(keys) {
+                Some(frame) => return Some(frame),
+                None => {}
+            }
+        }
+        None
+    }
+
+    // The frames of a queue, the head first.
+    pub fn frames(&self, heap: Global, queue: Queue) -> Result<Vec<u8>, AllocError>
+        ensures { λ r. ⌜ made r (λ v. vec-items v ≡ framesOf (modelOf (now (self .entry))) queue) ⌝ }
+    {
+        let mut list = Vec::new(heap);
+        let mut node = self.next.follow(MARK + self.number(queue));
+        let mut left: u16 = 256;
+        while left > 0 {
+            if node >= MARK {
+                return Ok(list);
+            }
+            list.push(node as u8)?;
+            node = self.next.follow(node);
+            left -= 1;
+        }
+        Ok(list)
     }
 }
 

@@ -52,12 +52,6 @@ pub impl Policy for FiveQueues as FiveQueuesPolicy {
     }
 
     fn take(&mut self, keys: &mut [u8; 256]) -> Option<u8> {
-        while self.any() {
-            match self.step(keys) {
-                Some(frame) => return Some(frame),
-                None => {}
-            }
-        }
-        None
+        self.pick(keys)
     }
 }

@@ -9,10 +9,10 @@ pub returns-then-node-lt-MARK : need.returns-then-node-lt-MARK
 returns-then-node-lt-MARK c =
     let s = c .args .self .now in
     head-some (s .next .frames ++ s .next .ends) (s .first) (c .follow-node .result) (c .args .queue)
-      (c .follow-node .ensures ∙ ap (λ k. getD (s .next .frames ++ s .next .ends) (256 + k) 0) (c .number .ensures)) (c .if-node-lt-MARK .taken)
+    (c .follow-node .ensures ∙ ap (λ k. getD (s .next .frames ++ s .next .ends) (256 + k) 0) (c .number .ensures)) (c .if-node-lt-MARK .taken)
 
 pub returns-else-node-lt-MARK : need.returns-else-node-lt-MARK
 returns-else-node-lt-MARK c =
     let s = c .args .self .now in
     head-none (s .next .frames ++ s .next .ends) (s .first) (c .follow-node .result) (c .args .queue)
-      (c .follow-node .ensures ∙ ap (λ k. getD (s .next .frames ++ s .next .ends) (256 + k) 0) (c .number .ensures)) (c .if-node-lt-MARK .left)
+    (c .follow-node .ensures ∙ ap (λ k. getD (s .next .frames ++ s .next .ends) (256 + k) 0) (c .number .ensures)) (c .if-node-lt-MARK .left)

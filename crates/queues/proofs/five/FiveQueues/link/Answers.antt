@@ -27,10 +27,10 @@ ghost-self c =
     let nl = all-long (s .next .frames) (s .next .ends) (s .next .long) (s .next .five) in
     let pl = all-long (s .prev .frames) (s .prev .ends) (s .prev .long) (s .prev .five) in
     let k = in-keeps (s .next .frames ++ s .next .ends) (s .prev .frames ++ s .prev .ends) (s .place) (s .first) (c .args .frame) (s .placed, s .forward, s .backward) nl pl (s .long) (s .named) f< (c .if-self-frame-lt-NONE .left)
-        (c .args .queue) (c .number-number .result) (c .follow-tail .result)
-        (c .lead .last .self .frames ++ c .lead .last .self .ends) (c .lead-2 .last .self .frames ++ c .lead-2 .last .self .ends)
-        (c .lead-3 .last .self .frames ++ c .lead-3 .last .self .ends) (c .lead-4 .last .self .frames ++ c .lead-4 .last .self .ends)
-        (c .number-number .ensures) (c .follow-tail .ensures) (c .lead .ensures) (c .lead-2 .ensures) (c .lead-3 .ensures) (c .lead-4 .ensures) in
+    (c .args .queue) (c .number-number .result) (c .follow-tail .result)
+    (c .lead .last .self .frames ++ c .lead .last .self .ends) (c .lead-2 .last .self .frames ++ c .lead-2 .last .self .ends)
+    (c .lead-3 .last .self .frames ++ c .lead-3 .last .self .ends) (c .lead-4 .last .self .frames ++ c .lead-4 .last .self .ends)
+    (c .number-number .ensures) (c .follow-tail .ensures) (c .lead .ensures) (c .lead-2 .ensures) (c .lead-3 .ensures) (c .lead-4 .ensures) in
     (s .named, (length-set (s .place) (c .args .frame) (c .number-number .result) ∙ s .long, (k .0, (k .1, (k .2, tt)))))
 
 pub returns : need.returns

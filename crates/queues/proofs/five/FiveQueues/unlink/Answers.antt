@@ -27,8 +27,8 @@ ghost-self c =
     let nl = all-long (s .next .frames) (s .next .ends) (s .next .long) (s .next .five) in
     let pl = all-long (s .prev .frames) (s .prev .ends) (s .prev .long) (s .prev .five) in
     let k = out-keeps (s .next .frames ++ s .next .ends) (s .prev .frames ++ s .prev .ends) (s .place) (s .first) (c .args .frame) (s .placed, s .forward, s .backward) nl pl (s .long) (s .named) f< (c .if-self-frame-ge-NONE .left)
-        (c .follow-before .result) (c .follow-behind .result) (c .lead .last .self .frames ++ c .lead .last .self .ends) (c .lead-2 .last .self .frames ++ c .lead-2 .last .self .ends)
-        (c .follow-before .ensures) (c .follow-behind .ensures) (c .lead .ensures) (c .lead-2 .ensures) in
+    (c .follow-before .result) (c .follow-behind .result) (c .lead .last .self .frames ++ c .lead .last .self .ends) (c .lead-2 .last .self .frames ++ c .lead-2 .last .self .ends)
+    (c .follow-before .ensures) (c .follow-behind .ensures) (c .lead .ensures) (c .lead-2 .ensures) in
     (s .named, (length-set (s .place) (c .args .frame) 5 ∙ s .long, (k .0, (k .1, (k .2, tt)))))
 
 pub returns : need.returns

@@ -2,7 +2,7 @@ use mathlib.Core.Path.{_≡_}
 use Rattle.queues.specs.Model.{modelOf}
 use Rattle.queues.proofs.Played.{rest}
 use Rattle.queues.proofs.Weight.{weight}
-use Rattle.queues.proofs.policy.FiveQueuesPolicy.take.Given as given
+use Rattle.queues.proofs.five.FiveQueues.pick.Given as given
 
 -- what is left of Take gives what all of it gives
 abbrev pub Inv-loop-self : given.InvT-loop-self
