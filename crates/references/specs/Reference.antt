@@ -1,6 +1,7 @@
 -- What a reference to a page leaves: a resident page's frame is touched, and any other page goes into a frame that is taken.
 use mathlib.Core.List.{List}
-use Prim.Native.Nat.{ℕ}
+use mathlib.Core.Bool.{false}
+use Prim.Native.Nat.{ℕ, zero, suc}
 use lib.ListN.{getD, set}
 use Rattle.std.specs.declared.option.Option.{Option}
 use Rattle.std.specs.declared.option.Option.the-variants.{Some, None}
@@ -13,6 +14,11 @@ pub record State (M : Type 0) : Type 0 where
   pub held : M
   pub marks : List ℕ
   pub pages : List ℕ
+
+-- the frames 1 to n are returned, in order, with reference and change bit off
+abbrev pub returned : {M : Type 0} → Rules M → M → ℕ → M
+returned r m zero = m
+returned r m (suc n) = r .give-back (returned r m n) (suc n) false false
 
 -- a page that is in no frame: the frame that was taken holds it, and is entered
 abbrev pub brought : {M : Type 0} → Rules M → ℕ → List ℕ → Took M → Option ℕ → State M

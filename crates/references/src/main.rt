@@ -2,6 +2,9 @@
 // recency, and the five queues.
 mod player;
 
+ghost use mathlib.Core.Path.{_≡_};
+ghost use lib.ListN.{replicate};
+ghost use Rattle.references.specs.Reference.{returned};
 use frames::Policy;
 use lru::LruList;
 use lru::LruPolicy;
@@ -11,8 +14,12 @@ use queues::FiveQueuesPolicy;
 use queues::Queue;
 use std::error::AnyError;
 
-// Frames 1 to 4 are returned, in order, with reference and change bit off.
-fn filled<P: Policy>(mut policy: P) -> Player<P> {
+// Frames 1 to 4 are returned, in order, with reference and change bit off. No frame has a page yet.
+fn filled<P: Policy>(mut policy: P) -> Player<P>
+    ensures held { λ r. ⌜ P·Policy .model (r .policy) ≡ returned (P·Policy .rules) (P·Policy .model policy) 4 ⌝ }
+    ensures marks { λ r. ⌜ r .keys ≡ replicate 256 0 ⌝ }
+    ensures pages { λ r. ⌜ r .pages ≡ replicate 256 0 ⌝ }
+{
     for frame in 1u16..5 {
         policy.return_frame(frame, false, false);
     }

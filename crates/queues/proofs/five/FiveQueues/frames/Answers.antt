@@ -14,7 +14,7 @@ returns-then-node-ge-MARK c =
     let s = c .args .self .now in
     let n = linksOf (s .next) in
     let start = listed-none n (s .first) (c .follow-node .result) (c .args .queue) (vec-items (c .new-list .result)) (c .new-list .ensures .items)
-        (c .follow-node .ensures ∙ ap (λ k. getD n (256 + k) 0) (c .number .ensures)) in
+    (c .follow-node .ensures ∙ ap (λ k. getD n (256 + k) 0) (c .number .ensures)) in
     listed-all n (c .loop-left .node) (vec-items (c .loop-left .list)) (framesOf (modelOf s) (c .args .queue)) (c .loop-left .left) (c .if-node-ge-MARK .taken) (c .loop-left .inv ∙ start)
 
 pub loop-left-again : need.loop-left-again
@@ -22,13 +22,13 @@ loop-left-again c =
     let s = c .args .self .now in
     let n = linksOf (s .next) in
     listed-more n (c .loop-left .node) (vec-items (c .loop-left .list)) (vec-items (c .new-list .result) ++ walk 256 n (c .follow-node .result)) (c .loop-left .left)
-      (c .follow-node-in-loop-left .result) (vec-items (c .push .last .self)) (c .loop-left-test .taken) (c .if-node-ge-MARK .left)
-      (c .follow-node-in-loop-left .ensures) (c .in-Continue-push .ensures tt .items) (c .loop-left .inv)
+    (c .follow-node-in-loop-left .result) (vec-items (c .push .last .self)) (c .loop-left-test .taken) (c .if-node-ge-MARK .left)
+    (c .follow-node-in-loop-left .ensures) (c .in-Continue-push .ensures tt .items) (c .loop-left .inv)
 
 pub returns : need.returns
 returns c =
     let s = c .args .self .now in
     let n = linksOf (s .next) in
     let start = listed-none n (s .first) (c .follow-node .result) (c .args .queue) (vec-items (c .new-list .result)) (c .new-list .ensures .items)
-        (c .follow-node .ensures ∙ ap (λ k. getD n (256 + k) 0) (c .number .ensures)) in
+    (c .follow-node .ensures ∙ ap (λ k. getD n (256 + k) 0) (c .number .ensures)) in
     listed-over n (c .loop-left .node) (vec-items (c .loop-left .list)) (framesOf (modelOf s) (c .args .queue)) (c .loop-left .left) (c .loop-left-test .left) (c .loop-left .inv ∙ start)
