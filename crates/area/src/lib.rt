@@ -25,6 +25,13 @@ impl PlainArea {
         PlainArea { area }
     }
 
+    /// The bytes as they stand.
+    pub fn area(&self) -> &[u8]
+        ensures { λ r. ⌜ now r ≡ vec-items (now (self .entry) .area) ⌝ }
+    {
+        &self.area
+    }
+
     /// The bytes, to be saved.
     pub fn into_area(self) -> Vec<u8>
         ensures { λ r. ⌜ r ≡ self .area ⌝ }

@@ -1,3 +1,3 @@
-pub mod Numbers
 pub mod Digests
 pub mod Hexadecimal
+pub mod Memory

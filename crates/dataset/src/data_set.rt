@@ -124,6 +124,13 @@ impl DataSet {
         FRONT + self.count() as usize + PAGE * slot as usize
     }
 
+    /// The bytes as they stand.
+    pub fn area(&self) -> &[u8]
+        ensures { λ r. ⌜ now r ≡ vec-items (now (self .entry) .area) ⌝ }
+    {
+        &self.area
+    }
+
     /// The area, to be saved: byte for byte what the format says.
     pub fn into_area(self) -> Vec<u8>
         ensures { λ r. ⌜ r ≡ self .area ⌝ }

@@ -7,7 +7,7 @@ use lib.ListN.{length, getD, drop}
 use Rattle.std.specs.Of.String.{string-bytes}
 use Rattle.std.proofs.shelf.Lists.{at-drop-more, at-drop-all}
 use Rattle.console.specs.Hexadecimal.{hexDigit, hexOf}
-use Rattle.console.proofs.Values.{two-more}
+use Rattle.console.proofs.Grown.{two-more}
 use Rattle.console.proofs.hexadecimal.hex_text.Needs as need
 
 pub loop-b-again : need.loop-b-again

@@ -1,8 +1,8 @@
 use mathlib.Core.Path.{_≡_}
 use Prim.Native.Nat.{ℕ, min, _^_, _<_}
 use lib.ListN.{take, getD}
-use Rattle.console.specs.Numbers.{digitOf, valueOf}
-use Rattle.console.proofs.number.numeral.Given as given
+use Rattle.script.specs.Numbers.{digitOf, valueOf}
+use Rattle.script.proofs.number.numeral.Given as given
 
 abbrev pub Inv-loop-c : given.InvT-loop-c
 Inv-loop-c l =

@@ -6,9 +6,9 @@ use borrow.Author.Needs.{needs}
 use borrow.Author.Tests.{eqb-false}
 use lib.ListN.{length, take, getD}
 use Rattle.std.proofs.shelf.Lists.{take-all}
-use Rattle.console.specs.Numbers.{digitOf, valueOf}
-use Rattle.console.proofs.Values.{value-more}
-use Rattle.console.proofs.number.numeral.Needs as need
+use Rattle.script.specs.Numbers.{digitOf, valueOf}
+use Rattle.script.proofs.Values.{value-more}
+use Rattle.script.proofs.number.numeral.Needs as need
 
 pub loop-c-again : need.loop-c-again
 loop-c-again c =

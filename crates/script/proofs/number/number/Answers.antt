@@ -4,9 +4,9 @@ use Prim.Native.Nat.{ℕ, min, _^_, _≤_}
 use native.Mathlib.Omega.{arith}
 use borrow.Author.Needs.{needs}
 use Rattle.std.proofs.shelf.Results.{cases-at-some}
-use Rattle.console.specs.Numbers.{Numeral, Quoted, valueOf, within}
-use Rattle.console.proofs.number.number.Needs as need
-use Rattle.console.proofs.number.number.Needs.{then-quoted, else-quoted}
+use Rattle.script.specs.Numbers.{Numeral, Quoted, valueOf, within}
+use Rattle.script.proofs.number.number.Needs as need
+use Rattle.script.proofs.number.number.Needs.{then-quoted, else-quoted}
 
 pub returns-in-Some-2 : need.returns-in-Some-2
 returns-in-Some-2 c =

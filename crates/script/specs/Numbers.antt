@@ -9,8 +9,8 @@ use lib.ListN.{length, getD, take, drop}
 use Rattle.std.specs.Iters.{folded}
 use Rattle.std.specs.declared.result.Result.{Result}
 use Rattle.std.specs.declared.result.Result.the-variants.{Ok, Err}
-use Rattle.console.specs.declared.number.NotNumber.{NotNumber}
-use Rattle.console.specs.declared.number.NotNumber.the-variants.{Malformed, TooLarge}
+use Rattle.script.specs.declared.number.NotNumber.{NotNumber}
+use Rattle.script.specs.declared.number.NotNumber.the-variants.{Malformed, TooLarge}
 
 -- The digit that a character is, 0 to 15; 16 where it is none.
 abbrev pub digitOf : ℕ → ℕ

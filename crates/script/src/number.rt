@@ -3,10 +3,10 @@ ghost use mathlib.Core.Path.{_≡_};
 ghost use Prim.Native.Nat.{ℕ, min, _^_, _≤_};
 ghost use Rattle.std.specs.Options.{Cases as BySome};
 ghost use Rattle.std.specs.Orderings.{Decides};
-ghost use Rattle.console.specs.Numbers.{digitOf, Numeral, Quoted, ReadsTo, valueOf};
+ghost use Rattle.script.specs.Numbers.{digitOf, Numeral, Quoted, ReadsTo, valueOf};
 
 /// Why a word is not the number that is wanted.
-#[derive(Clone, Copy, PartialEq, Eq, Debug)]
+#[derive(Clone, Copy)]
 pub enum NotNumber {
     /// It writes no number.
     Malformed,
