@@ -1,5 +1,6 @@
 -- What a write to a part of storage leaves, byte by byte.
 use mathlib.Core.Path.{_≡_, refl, sym, ap, _∙_, subst}
+use mathlib.Core.Bool.{Bool, true, false}
 use mathlib.Core.List.{List, _++_}
 use mathlib.Core.Logic.{_⊎_, inl, inr, ⊎-elim}
 use Prim.Native.Nat.{ℕ, _+_, _-_, _≤_, _<_}
@@ -8,6 +9,8 @@ use borrow.Author.Needs.{needs}
 use borrow.Rule.Slice.PartMut.{putMid}
 use lib.ListN.{length, getD, take, drop}
 use Rattle.std.proofs.shelf.Lists.{length-append, length-take-le, length-drop, getD-append-left, getD-append-right, getD-take, getD-drop, places}
+use Rattle.std.specs.Orderings.{When}
+use Rattle.storage.specs.Bytes.{fits}
 use Rattle.console.specs.Memory.{Altered}
 
 front : (s : List ℕ) (at : ℕ) → at ≤ length s → length (take at s) ≡ at
@@ -50,3 +53,19 @@ put-altered s bytes ys at n h long e =
       put = λ k lt. byte-put s bytes at n k le same (omega arith);
       kept = λ j. ⊎-elim (λ (lt : j < at). before-put s bytes at n j le lt) (λ (ge : at + length bytes ≤ j). behind-put s bytes at n j le same (omega arith));
     })
+
+-- Altered storage, and storage as it was, told of the same bytes under other names.
+pub then-when : (s r bytes t u : List ℕ) (at : ℕ) → s ≡ r → u ≡ t → true ≡ fits (length bytes) s at → Altered s at bytes t
+    → When (fits (length bytes) r at) (Altered r at bytes u) (u ≡ r)
+then-when s r bytes t u at es eu ok h =
+    let P : List ℕ → Type 0 = λ x. When (fits (length bytes) x at) (Altered x at bytes u) (u ≡ x) in
+    let Q : Bool → Type 0 = λ b. When b (Altered s at bytes u) (u ≡ s) in
+    let R : List ℕ → Type 0 = λ y. Altered s at bytes y in
+    subst P es (subst Q ok (subst R (sym eu) h))
+
+pub else-when : (s r bytes t u : List ℕ) (at : ℕ) → s ≡ r → u ≡ t → false ≡ fits (length bytes) s at → t ≡ s
+    → When (fits (length bytes) r at) (Altered r at bytes u) (u ≡ r)
+else-when s r bytes t u at es eu no-room h =
+    let P : List ℕ → Type 0 = λ x. When (fits (length bytes) x at) (Altered x at bytes u) (u ≡ x) in
+    let Q : Bool → Type 0 = λ b. When b (Altered s at bytes u) (u ≡ s) in
+    subst P es (subst Q no-room (eu ∙ h))

@@ -3,6 +3,7 @@ use mathlib.Core.List.{List}
 use Prim.Native.Nat.{ℕ, _*_, _%_, _^_}
 use lib.Bits.{bitXor}
 use Rattle.std.specs.Iters.{folded}
+use Rattle.console.specs.Hexadecimal.{hexOf, longBytes}
 
 -- The digest of no bytes.
 abbrev pub basis : ℕ
@@ -18,3 +19,7 @@ digestFrom h bytes = folded mixed h bytes
 
 abbrev pub digestOf : List ℕ → ℕ
 digestOf bytes = digestFrom basis bytes
+
+-- The digits of a digest.
+unfoldable pub digestText : List ℕ → List ℕ
+digestText bytes = hexOf (longBytes (digestOf bytes))

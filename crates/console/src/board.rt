@@ -1,6 +1,19 @@
 //! A wired board: main storage, the control words and the page store, with a method for each command.
+ghost use mathlib.Core.Path.{_≡_};
+ghost use mathlib.Core.List.{[]};
+ghost use lib.ListN.{length, replicate};
+ghost use Rattle.std.specs.Of.Vec.{vec-items};
+ghost use Rattle.std.specs.Options.{valueOr};
+ghost use Rattle.std.specs.Orderings.{When};
+ghost use Rattle.std.specs.Results.{Cases};
+ghost use Rattle.std.specs.Vec.{made};
+ghost use Rattle.storage.specs.Bytes.{fits};
+ghost use Rattle.tables.specs.Walk.{walk as walkOf};
+ghost use Rattle.console.specs.Answers.{alterAnswer, badTo, Controls as ShowsControls, Displays, markTo, Slots, walked, wiredAnswer};
+ghost use Rattle.console.specs.Memory.{Altered};
+ghost use Rattle.console.specs.Stores.{areaOf, markedArea, refusalIn};
 use crate::answer::Answer;
-use crate::digest::digest_of;
+use crate::digest::digest_text;
 use crate::hexadecimal::hex_text;
 use crate::memory::altered;
 use crate::memory::displayed;
@@ -29,7 +42,11 @@ pub struct Board {
 
 impl Board {
     /// A fresh board, with no main storage.
-    pub fn new(heap: Global, policy: Policy, translator: Translator, store: Store) -> Board {
+    pub fn new(heap: Global, policy: Policy, translator: Translator, store: Store) -> Board
+        ensures empty { λ r. ⌜ vec-items (r .storage) ≡ [] ⌝ }
+        ensures stopped { λ r. ⌜ (r .controls .cr0 ≡ 0) × (r .controls .cr1 ≡ 0) ⌝ }
+        ensures parts { λ r. ⌜ (r .policy ≡ policy) × (r .translator ≡ translator) × (r .store ≡ store) ⌝ }
+    {
         Board {
             policy,
             translator,
@@ -40,7 +57,9 @@ impl Board {
     }
 
     /// The answer to the WIRE that made this board.
-    pub fn wired(&self) -> Answer {
+    pub fn wired(&self) -> Answer
+        ensures { λ r. ⌜ r ≡ wiredAnswer (refusalIn (now (self .entry) .store)) ⌝ }
+    {
         match self.store.refusal() {
             None => Answer::Done(Verb::Wire),
             Some(number) => Answer::Refused(Verb::Wire, number),
@@ -48,13 +67,18 @@ impl Board {
     }
 
     /// STORAGE: main storage anew, of so many zero bytes.
-    pub fn make_storage(&mut self, heap: Global, bytes: u32) -> Result<Answer, AllocError> {
+    pub fn make_storage(&mut self, heap: Global, bytes: u32) -> Result<Answer, AllocError>
+        ensures after { λ r. ⌜ Cases r (λ _. vec-items (now (self .exit) .storage) ≡ replicate bytes 0) (λ _. now (self .exit) .storage ≡ now (self .entry) .storage) ⌝ }
+        ensures kept { λ _. ⌜ (now (self .exit) .store ≡ now (self .entry) .store) × (now (self .exit) .controls ≡ now (self .entry) .controls) ⌝ }
+    {
         self.storage = vec![in heap; 0u8; bytes as usize]?;
         Ok(Answer::Done(Verb::Storage))
     }
 
     /// DISPLAY: bytes of main storage.
-    pub fn display(&self, heap: Global, address: u32, count: u32) -> Result<Answer, AllocError> {
+    pub fn display(&self, heap: Global, address: u32, count: u32) -> Result<Answer, AllocError>
+        ensures { λ r. ⌜ made r (Displays (vec-items (now (self .entry) .storage)) address count) ⌝ }
+    {
         match displayed(&self.storage, address as usize, count as usize) {
             Some(bytes) => Ok(Answer::Bytes(address, hex_text(heap, bytes)?)),
             None => Ok(Answer::Refused(Verb::Display, Refusal::Addressing.number())),
@@ -62,7 +86,11 @@ impl Board {
     }
 
     /// ALTER: puts bytes into main storage.
-    pub fn alter(&mut self, address: u32, bytes: &[u8]) -> Answer {
+    pub fn alter(&mut self, address: u32, bytes: &[u8]) -> Answer
+        ensures answer { λ r. ⌜ r ≡ alterAnswer (fits (length (now (bytes .entry))) (vec-items (now (self .entry) .storage)) address) ⌝ }
+        ensures after { λ _. ⌜ When (fits (length (now (bytes .entry))) (vec-items (now (self .entry) .storage)) address) (Altered (vec-items (now (self .entry) .storage)) address (now (bytes .entry)) (vec-items (now (self .exit) .storage))) (vec-items (now (self .exit) .storage) ≡ vec-items (now (self .entry) .storage)) ⌝ }
+        ensures kept { λ _. ⌜ (now (self .exit) .store ≡ now (self .entry) .store) × (now (self .exit) .controls ≡ now (self .entry) .controls) ⌝ }
+    {
         if altered(&mut self.storage, address as usize, bytes) {
             Answer::Done(Verb::Alter)
         } else {
@@ -71,7 +99,9 @@ impl Board {
     }
 
     /// WALK: the walk of the tables, with these control words or the board's own.
-    pub fn walk(&self, address: u32, controls: Option<Controls>) -> Answer {
+    pub fn walk(&self, address: u32, controls: Option<Controls>) -> Answer
+        ensures { λ r. ⌜ r ≡ walked (walkOf (vec-items (now (self .entry) .storage)) (valueOr controls (now (self .entry) .controls)) address) ⌝ }
+    {
         let words = controls.unwrap_or(self.controls);
         match walk(&self.storage, words, address) {
             Ok(real) => Answer::Real(real),
@@ -80,18 +110,22 @@ impl Board {
     }
 
     /// CONTROLS: both control words.
-    pub fn show_controls(&self, heap: Global) -> Result<Answer, AllocError> {
+    pub fn show_controls(&self, heap: Global) -> Result<Answer, AllocError>
+        ensures { λ r. ⌜ made r (ShowsControls (now (self .entry) .controls .cr0) (now (self .entry) .controls .cr1)) ⌝ }
+    {
         let cr0 = hex_text(heap, &self.controls.cr0.to_be_bytes())?;
         let cr1 = hex_text(heap, &self.controls.cr1.to_be_bytes())?;
         Ok(Answer::Words(cr0, cr1))
     }
 
     /// SLOT: the digest of what a read of a slot gives, and its mark.
-    pub fn slot(&self, heap: Global, slot: u32) -> Result<Answer, AllocError> {
+    pub fn slot(&self, heap: Global, slot: u32) -> Result<Answer, AllocError>
+        ensures { λ r. ⌜ made r (Slots (now (self .entry) .store) slot) ⌝ }
+    {
         let mut page = [0u8; PAGE];
         match self.store.read(slot, &mut page) {
             Ok(()) => {
-                let digest = hex_text(heap, &digest_of(&page).to_be_bytes())?;
+                let digest = digest_text(heap, &page)?;
                 Ok(Answer::Page(slot, digest, self.store.mark(slot)))
             }
             Err(fault) => Ok(Answer::Refused(Verb::Slot, fault.refusal.number())),
@@ -99,7 +133,11 @@ impl Board {
     }
 
     /// BAD: marks a slot bad.
-    pub fn bad(&mut self, slot: u32) -> Result<Answer, Wrong> {
+    pub fn bad(&mut self, slot: u32) -> Result<Answer, Wrong>
+        ensures answer { λ r. ⌜ r ≡ badTo (now (self .entry) .store) slot ⌝ }
+        ensures after { λ _. ⌜ areaOf (now (self .exit) .store) ≡ markedArea (now (self .entry) .store) slot 2 ⌝ }
+        ensures kept { λ _. ⌜ (now (self .exit) .storage ≡ now (self .entry) .storage) × (now (self .exit) .controls ≡ now (self .entry) .controls) ⌝ }
+    {
         let Store::Set(set) = &mut self.store else {
             return Err(Wrong::NoMarks(Verb::Bad));
         };
@@ -110,7 +148,11 @@ impl Board {
     }
 
     /// MARK: puts a mark at a slot, and opens the data set again.
-    pub fn mark(&mut self, slot: u32, value: u8) -> Result<Answer, Wrong> {
+    pub fn mark(&mut self, slot: u32, value: u8) -> Result<Answer, Wrong>
+        ensures answer { λ r. ⌜ r ≡ markTo (now (self .entry) .store) slot value ⌝ }
+        ensures after { λ _. ⌜ areaOf (now (self .exit) .store) ≡ markedArea (now (self .entry) .store) slot value ⌝ }
+        ensures kept { λ _. ⌜ (now (self .exit) .storage ≡ now (self .entry) .storage) × (now (self .exit) .controls ≡ now (self .entry) .controls) ⌝ }
+    {
         let Store::Set(set) = &mut self.store else {
             return Err(Wrong::NoMarks(Verb::Mark));
         };
@@ -121,7 +163,9 @@ impl Board {
     }
 
     /// What SAVE puts into a file.
-    pub fn saved(&self) -> &[u8] {
+    pub fn saved(&self) -> &[u8]
+        ensures { λ r. ⌜ now r ≡ areaOf (now (self .entry) .store) ⌝ }
+    {
         self.store.area()
     }
 }

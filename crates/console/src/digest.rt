@@ -1,6 +1,11 @@
 //! Digests, by which two runs of bytes are compared at a glance: FNV-1a of 64 bits.
 ghost use mathlib.Core.Path.{_≡_};
-ghost use Rattle.console.specs.Digests.{basis, digestFrom, digestOf};
+ghost use Rattle.std.specs.Of.String.{string-bytes};
+ghost use Rattle.std.specs.Vec.{made};
+ghost use Rattle.console.specs.Digests.{basis, digestFrom, digestOf, digestText};
+use crate::hexadecimal::hex_text;
+use std::alloc::AllocError;
+use std::alloc::Global;
 
 /// The digest of no bytes.
 const BASIS: u64 = 0xCBF2_9CE4_8422_2325;
@@ -48,4 +53,11 @@ pub fn digest_of(bytes: &[u8]) -> u64
     let mut digest = Digest::new();
     digest.add(bytes);
     digest.number()
+}
+
+/// The sixteen digits of the digest of a run of bytes.
+pub fn digest_text(heap: Global, bytes: &[u8]) -> Result<String, AllocError>
+    ensures { λ r. ⌜ made r (λ t. string-bytes t ≡ digestText (now (bytes .entry))) ⌝ }
+{
+    hex_text(heap, &digest_of(bytes).to_be_bytes())
 }

@@ -13,7 +13,11 @@ fn hex_digit(d: u8) -> char
     requires { ⌜ d < 16 ⌝ }
     ensures { λ r. ⌜ r ≡ hexDigit d ⌝ }
 {
-    if d < 10 { (b'0' + d) as char } else { (b'A' - 10 + d) as char }
+    if d < 10 {
+        (b'0' + d) as char
+    } else {
+        (b'A' - 10 + d) as char
+    }
 }
 
 /// Two digits for each byte, in order.

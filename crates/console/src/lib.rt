@@ -1,8 +1,10 @@
 //! The operator's console: the commands of a script are carried out here on a board, and answered.
+pub mod answer;
+pub mod board;
+pub mod console;
 pub mod digest;
 pub mod hexadecimal;
 pub mod memory;
-pub mod answer;
 pub mod store;
-pub mod board;
-pub mod console;
+#[cfg(test)]
+mod tests;

@@ -16,8 +16,8 @@ capped v base d h =
     ⊎-elim
     (λ (lt : v < 2 ^ 32). let e : min v (2 ^ 32) ≡ v = omega arith in rw e refl)
     (λ (ge : 2 ^ 32 ≤ v). let e : min v (2 ^ 32) ≡ 2 ^ 32 = omega arith in
-        let big : 2 ^ 32 * 1 ≤ v * base = mul-le-mul ge h in
-        rw e (omega arith))
+    let big : 2 ^ 32 * 1 ≤ v * base = mul-le-mul ge h in
+    rw e (omega arith))
     (cases-lt v (2 ^ 32))
 
 -- One digit more.

@@ -9,10 +9,10 @@ use crate::verb::Verb;
 use crate::verb::for_machine;
 use crate::wiring::Wiring;
 use crate::wrong::Wrong;
-use std::alloc::Global;
-use tables::Controls;
 use crate::wrong::WrongFromAlloc;
 use crate::wrong::WrongFromRefused;
+use std::alloc::Global;
+use tables::Controls;
 
 /// The bytes of main storage, at most.
 pub const MOST_STORAGE: u32 = 67_108_864;
@@ -112,7 +112,10 @@ fn display(address: &str, count: &str) -> Result<Command, Wrong>
     ensures called { λ r. ⌜ made r (λ c. verbOf c ≡ Verb.Display) ⌝ }
     ensures says { λ r. ⌜ made r (λ c. (a : ℕ) × (n : ℕ) × (c ≡ Command.Display a n) × Writes (now (address .entry)) a × Writes (now (count .entry)) n) ⌝ }
 {
-    Ok(Command::Display(word_of(Verb::Display, address)?, word_of(Verb::Display, count)?))
+    Ok(Command::Display(
+        word_of(Verb::Display, address)?,
+        word_of(Verb::Display, count)?,
+    ))
 }
 
 impl Command {

@@ -1,6 +1,8 @@
 //! Scripts: lines, the numbers and words in them, and the commands that they write.
-pub mod number;
-pub mod verb;
-pub mod wrong;
-pub mod wiring;
 pub mod command;
+pub mod number;
+#[cfg(test)]
+mod tests;
+pub mod verb;
+pub mod wiring;
+pub mod wrong;

@@ -1,10 +1,10 @@
 //! Why a line cannot be carried out as it is written.
 use crate::number::NotNumber;
 use crate::verb::Verb;
+use crate::verb::VerbDisplay;
 use std::alloc::AllocError;
 use std::alloc::Refused;
 use std::fmt;
-use crate::verb::VerbDisplay;
 
 /// What is wrong with a line. Such a line changes nothing.
 #[derive(Clone, Copy)]
@@ -61,7 +61,10 @@ pub impl fmt::Display for Wrong as WrongDisplay {
             Wrong::UnknownWord => f.write_str("WIRE: an unknown word"),
             Wrong::Twice => f.write_str("WIRE: a word stands twice"),
             Wrong::NotWired(verb) => write!(f, "{verb} before the first WIRE"),
-            Wrong::NoMarks(verb) => write!(f, "{verb} wants a data set, and the store is a plain area"),
+            Wrong::NoMarks(verb) => write!(
+                f,
+                "{verb} wants a data set, and the store is a plain area"
+            ),
             Wrong::Unreadable => f.write_str("the file cannot be read"),
             Wrong::Unwritable => f.write_str("the file cannot be written"),
             Wrong::Memory => f.write_str("memory is not to be had"),

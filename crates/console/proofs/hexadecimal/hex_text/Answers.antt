@@ -19,11 +19,11 @@ loop-b-again c =
     let second = c .in-Continue-push-2 .ensures tt .bytes in
     let second-is = c .push-in-loop-b .ensures .ascii low in
     let left : hexOf (drop (c .loop-b .b-index) (c .args .bytes .now))
-          ≡ hexDigit (getD (c .args .bytes .now) (c .loop-b .b-index) 0 / 16) ∷ hexDigit (getD (c .args .bytes .now) (c .loop-b .b-index) 0 % 16)
-            ∷ hexOf (drop (c .loop-b .b-index + 1) (c .args .bytes .now))
-        = at-drop-more hexOf (c .args .bytes .now) (c .loop-b .b-index) 0 (omega arith) in
+    ≡ hexDigit (getD (c .args .bytes .now) (c .loop-b .b-index) 0 / 16) ∷ hexDigit (getD (c .args .bytes .now) (c .loop-b .b-index) 0 % 16)
+    ∷ hexOf (drop (c .loop-b .b-index + 1) (c .args .bytes .now))
+    = at-drop-more hexOf (c .args .bytes .now) (c .loop-b .b-index) 0 (omega arith) in
     let both = two-more (string-bytes (c .loop-b .text)) (hexOf (drop (c .loop-b .b-index + 1) (c .args .bytes .now)))
-        (c .hex-digit .result) (c .hex-digit-in-loop-b .result) in
+    (c .hex-digit .result) (c .hex-digit-in-loop-b .result) in
     cc
 
 pub returns : need.returns

@@ -11,9 +11,10 @@ use Rattle.script.proofs.number.number.Needs.{then-quoted, else-quoted}
 pub returns-in-Some-2 : need.returns-in-Some-2
 returns-in-Some-2 c =
     elim (c .if-quoted .came) [
-      then-quoted w ↦
-        let h = cases-at-some _ _ (c .in-Some .v) (sym (w .value-is) ∙ c .in-Some .is) (w .numeral-value .ensures) in
-        (valueOf 16 (within (c .args .text .now)), inr (search needs), omega arith)
-    | else-quoted w ↦
-        let h = cases-at-some _ _ (c .in-Some .v) (sym (w .value-is) ∙ c .in-Some .is) (w .numeral-value-else-quoted .ensures) in
-        (valueOf 10 (c .args .text .now), inl (h .0, refl), omega arith) ]
+      | then-quoted w ↦
+          let h = cases-at-some _ _ (c .in-Some .v) (sym (w .value-is) ∙ c .in-Some .is) (w .numeral-value .ensures) in
+          (valueOf 16 (within (c .args .text .now)), inr (search needs), omega arith)
+      | else-quoted w ↦
+          let h = cases-at-some _ _ (c .in-Some .v) (sym (w .value-is) ∙ c .in-Some .is) (w .numeral-value-else-quoted .ensures) in
+          (valueOf 10 (c .args .text .now), inl (h .0, refl), omega arith)
+    ]
