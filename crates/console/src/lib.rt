@@ -6,5 +6,3 @@ pub mod digest;
 pub mod hexadecimal;
 pub mod memory;
 pub mod store;
-#[cfg(test)]
-mod tests;

@@ -1,8 +1,8 @@
 //! Numbers at their edges, and lines that write no command.
-use crate::command::Command;
-use crate::command::parse;
-use crate::number::number;
-use crate::wrong::Wrong;
+use script::command::Command;
+use script::command::parse;
+use script::number::number;
+use script::wrong::Wrong;
 use std::test::*;
 
 #[test]

@@ -1,8 +1,8 @@
 //! Digests with known values, and main storage at its edges.
-use crate::digest::digest_of;
-use crate::hexadecimal::hex_text;
-use crate::memory::altered;
-use crate::memory::displayed;
+use console::digest::digest_of;
+use console::hexadecimal::hex_text;
+use console::memory::altered;
+use console::memory::displayed;
 use std::test::*;
 
 #[test]
