@@ -1,6 +1,7 @@
 //! Lines and the commands that they write.
 ghost use mathlib.Core.Path.{_≡_};
-ghost use Prim.Native.Nat.{ℕ, _≤_};
+ghost use Prim.Native.Nat.{ℕ, _<_, _≤_};
+ghost use lib.ListN.{length, getD, take};
 ghost use Rattle.std.specs.Vec.{made};
 ghost use Rattle.script.specs.Commands.{verbOf};
 ghost use Rattle.script.specs.Numbers.{Writes};
@@ -34,7 +35,11 @@ pub enum Command {
 }
 
 /// The part of a line in front of its comment.
-pub fn uncommented(line: &[u8]) -> &[u8] {
+pub fn uncommented(line: &[u8]) -> &[u8]
+    ensures front { λ r. ⌜ now r ≡ take (length (now r)) (now (line .entry)) ⌝ }
+    ensures clear { λ r. ⌜ ((k : ℕ) → k < length (now r) → getD (now (line .entry)) k 0 ≡ 35 → ⊥) ⌝ }
+    ensures stops { λ r. ⌜ (length (now r) < length (now (line .entry)) → getD (now (line .entry)) (length (now r)) 0 ≡ 35) ⌝ }
+{
     for (i, c) in line.iter().enumerate() {
         if *c == b'#' {
             return &line[0..i];
