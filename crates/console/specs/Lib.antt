@@ -1,0 +1,5 @@
+pub mod Digests
+pub mod Hexadecimal
+pub mod Memory
+pub mod Stores
+pub mod Answers

@@ -1,0 +1,6 @@
+//! Scripts: lines, the numbers and words in them, and the commands that they write.
+pub mod command;
+pub mod number;
+pub mod verb;
+pub mod wiring;
+pub mod wrong;
