@@ -25,9 +25,9 @@ use Rattle.console.specs.declared.answer.Answer.{Answer}
 use Rattle.console.specs.declared.answer.Answer.the-variants.{Help, Done, Refused, Opened, NotOpened, Bytes, Real, Words, Page}
 use Rattle.console.specs.declared.store.Store.{Store}
 use Rattle.console.specs.declared.store.Store.the-variants.{Plain, Set}
-use Rattle.console.specs.Digests.{digestText}
-use Rattle.console.specs.Hexadecimal.{hexOf, wordBytes}
-use Rattle.console.specs.Memory.{bytesAt}
+use Rattle.listing.specs.Digests.{digestText}
+use Rattle.listing.specs.Hexadecimal.{hexOf, wordBytes}
+use Rattle.listing.specs.Memory.{bytesAt}
 use Rattle.console.specs.Stores.{markIn, slotBytes, slotRefusal}
 
 -- The answer to WALK.

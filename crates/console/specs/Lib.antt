@@ -1,5 +1,2 @@
-pub mod Digests
-pub mod Hexadecimal
-pub mod Memory
 pub mod Stores
 pub mod Answers

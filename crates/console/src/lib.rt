@@ -1,8 +1,4 @@
-//! The operator's console: the commands of a script are carried out here on a board, and answered.
+//! The operator's console: a board with its main storage and page store, and what each command does to it and answers.
 pub mod answer;
 pub mod board;
-pub mod console;
-pub mod digest;
-pub mod hexadecimal;
-pub mod memory;
 pub mod store;

@@ -1,8 +1,8 @@
 //! Digests with known values, and main storage at its edges.
-use console::digest::digest_of;
-use console::hexadecimal::hex_text;
-use console::memory::altered;
-use console::memory::displayed;
+use listing::digest::digest_of;
+use listing::hexadecimal::hex_text;
+use listing::memory::altered;
+use listing::memory::displayed;
 use std::test::*;
 
 #[test]

@@ -1,7 +1,9 @@
 //! The operator's panel: reads a script from standard input, or from the file that its one argument names, and writes
 //! the answer to each line before it reads the next.
+mod lines;
+
 use console::answer::AnswerDisplay;
-use console::console::Console;
+use lines::Console;
 use script::wrong::Wrong;
 use script::wrong::WrongDisplay;
 use std::env;

@@ -8,7 +8,7 @@ use Rattle.storage.specs.Bytes.{fits}
 use Rattle.script.specs.declared.verb.Verb.the-variants as Verb
 use Rattle.console.specs.declared.answer.Answer.the-variants.{Refused}
 use Rattle.console.specs.Answers.{alterAnswer}
-use Rattle.console.proofs.Puts.{then-when, else-when}
+use Rattle.listing.proofs.Puts.{then-when, else-when}
 use Rattle.console.proofs.board.Board.alter.Needs as need
 
 pub returns-then-altered : need.returns-then-altered

@@ -1,6 +1,6 @@
 use mathlib.Core.Path.{_≡_, refl, sym, ap, _∙_}
 use borrow.Author.Needs.{needs}
-use Rattle.console.specs.Digests.{digestText}
+use Rattle.listing.specs.Digests.{digestText}
 use Rattle.console.specs.Stores.{areaOf, rulesOf, slotRefusal}
 use Rattle.console.proofs.Gives.{read-ok}
 use Rattle.console.proofs.board.Board.slot.Needs as need

@@ -1,7 +1,7 @@
 use native.Mathlib.Omega.{arith}
 use borrow.Author.Needs.{needs}
-use Rattle.console.proofs.Puts.{put-altered}
-use Rattle.console.proofs.memory.altered.Needs as need
+use Rattle.listing.proofs.Puts.{put-altered}
+use Rattle.listing.proofs.memory.altered.Needs as need
 
 pub returns : need.returns
 returns c = record {

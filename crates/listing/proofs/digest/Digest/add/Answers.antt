@@ -3,8 +3,8 @@ use native.Mathlib.Omega.{arith}
 use lib.ListN.{length}
 use Rattle.std.proofs.shelf.Lists.{take-all}
 use Rattle.std.proofs.shelf.Sums.{folded-more}
-use Rattle.console.specs.Digests.{mixed, digestFrom}
-use Rattle.console.proofs.digest.Digest.add.Needs as need
+use Rattle.listing.specs.Digests.{mixed, digestFrom}
+use Rattle.listing.proofs.digest.Digest.add.Needs as need
 
 pub loop-b-again : need.loop-b-again
 loop-b-again c =

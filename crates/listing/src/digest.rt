@@ -2,7 +2,7 @@
 ghost use mathlib.Core.Path.{_≡_};
 ghost use Rattle.std.specs.Of.String.{string-bytes};
 ghost use Rattle.std.specs.Vec.{made};
-ghost use Rattle.console.specs.Digests.{basis, digestFrom, digestOf, digestText};
+ghost use Rattle.listing.specs.Digests.{basis, digestFrom, digestOf, digestText};
 use crate::hexadecimal::hex_text;
 use std::alloc::AllocError;
 use std::alloc::Global;

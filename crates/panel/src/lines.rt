@@ -1,7 +1,7 @@
 //! The console: a script's lines, carried out one by one.
-use crate::answer::Answer;
-use crate::board::Board;
-use crate::store::Store;
+use console::answer::Answer;
+use console::board::Board;
+use console::store::Store;
 use script::command::Command;
 use script::command::parse;
 use script::verb::Verb;

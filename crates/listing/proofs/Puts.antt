@@ -11,7 +11,7 @@ use lib.ListN.{length, getD, take, drop}
 use Rattle.std.proofs.shelf.Lists.{length-append, length-take-le, length-drop, getD-append-left, getD-append-right, getD-take, getD-drop, places}
 use Rattle.std.specs.Orderings.{When}
 use Rattle.storage.specs.Bytes.{fits}
-use Rattle.console.specs.Memory.{Altered}
+use Rattle.listing.specs.Memory.{Altered}
 
 front : (s : List ℕ) (at : ℕ) → at ≤ length s → length (take at s) ≡ at
 front s at h = length-take-le at s h

@@ -3,7 +3,7 @@ use mathlib.Core.List.{List}
 use Prim.Native.Nat.{ℕ, _*_, _%_, _^_}
 use lib.Bits.{bitXor}
 use Rattle.std.specs.Iters.{folded}
-use Rattle.console.specs.Hexadecimal.{hexOf, longBytes}
+use Rattle.listing.specs.Hexadecimal.{hexOf, longBytes}
 
 -- The digest of no bytes.
 abbrev pub basis : ℕ

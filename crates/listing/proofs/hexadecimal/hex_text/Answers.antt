@@ -6,9 +6,9 @@ use borrow.Author.Needs.{needs}
 use lib.ListN.{length, getD, drop}
 use Rattle.std.specs.Of.String.{string-bytes}
 use Rattle.std.proofs.shelf.Lists.{at-drop-more, at-drop-all}
-use Rattle.console.specs.Hexadecimal.{hexDigit, hexOf}
-use Rattle.console.proofs.Grown.{two-more}
-use Rattle.console.proofs.hexadecimal.hex_text.Needs as need
+use Rattle.listing.specs.Hexadecimal.{hexDigit, hexOf}
+use Rattle.listing.proofs.Grown.{two-more}
+use Rattle.listing.proofs.hexadecimal.hex_text.Needs as need
 
 pub loop-b-again : need.loop-b-again
 loop-b-again c =

@@ -6,7 +6,7 @@ ghost use Rattle.std.specs.declared.option.Option.the-variants.{Some, None};
 ghost use Rattle.std.specs.Options.{mapped};
 ghost use Rattle.std.specs.Orderings.{When};
 ghost use Rattle.storage.specs.Bytes.{fits};
-ghost use Rattle.console.specs.Memory.{Altered, bytesAt};
+ghost use Rattle.listing.specs.Memory.{Altered, bytesAt};
 use storage::holds;
 
 /// The `count` bytes at `at`, or none where not all of them are in storage.

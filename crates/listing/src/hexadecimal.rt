@@ -4,7 +4,7 @@ ghost use mathlib.Core.List.{[], _∷_};
 ghost use Prim.Native.Nat.{_/_, _%_, _<_};
 ghost use Rattle.std.specs.Of.String.{string-bytes};
 ghost use Rattle.std.specs.Vec.{made};
-ghost use Rattle.console.specs.Hexadecimal.{hexDigit, hexOf};
+ghost use Rattle.listing.specs.Hexadecimal.{hexDigit, hexOf};
 use std::alloc::AllocError;
 use std::alloc::Global;
 

@@ -1,0 +1,3 @@
+pub mod Digests
+pub mod Hexadecimal
+pub mod Memory
