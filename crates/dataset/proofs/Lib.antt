@@ -1,0 +1,4 @@
+pub mod Opening
+pub mod Formed
+pub mod Slots
+pub mod Blanks
