@@ -1,0 +1,4 @@
+pub mod Place
+pub mod Walks
+pub mod Find
+pub mod Own
