@@ -169,10 +169,13 @@ firstRefusal Purge w = refusedBy (decodePurge w)
 firstRefusal Settle w = refusedBy (decodeSettle w)
 
 module _ {T P S : Type 0} (r : Parts T P S) where
-  -- a call is answered, or refused with the first refusal that holds and everything left as found
+  -- an outcome is an answer, or the first refusal that holds with everything left as found
+  abbrev pub ToldBy : Answer × World T P S → World T P S → Option Refusal → Type 0
+  ToldBy x w (Some why) = x ≡ (Refused why, w)
+  ToldBy x w None = answered r (x .0)
+
   abbrev pub Told : Call → World T P S → Option Refusal → Type 0
-  Told c w (Some why) = worked r c w ≡ (Refused why, w)
-  Told c w None = answered r (worked r c w .0)
+  Told c w o = ToldBy (worked r c w) w o
 
   -- main storage as it is handed to a call
   abbrev pub handed : List ℕ → World T P S → World T P S
