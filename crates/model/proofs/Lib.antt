@@ -6,3 +6,5 @@ pub mod Fault
 pub mod Decoded
 pub mod Ready
 pub mod Kept
+pub mod Memory
+pub mod Moved
