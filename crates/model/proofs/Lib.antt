@@ -8,3 +8,4 @@ pub mod Ready
 pub mod Kept
 pub mod Memory
 pub mod Moved
+pub mod Beside
