@@ -9,3 +9,5 @@ pub mod Kept
 pub mod Memory
 pub mod Moved
 pub mod Beside
+pub mod Answered
+pub mod Start
