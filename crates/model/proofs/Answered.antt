@@ -202,7 +202,7 @@ module _ {T P S : Type 0} (r : Parts T P S) (law : LawfulParts r) where
         a f key (d .part) (d .brought .pageable) (d .brought .has) (d .segment) (d .entry))
 
   -- Tests that agree: both pass, or both refuse for the same reason.
-  abbrev Agree : {A : Type 0} → Result A Refusal → Result (Unit {0}) Refusal → Type 0
+  abbrev pub Agree : {A : Type 0} → Result A Refusal → Result (Unit {0}) Refusal → Type 0
   Agree (Ok x) (Ok y) = Unit {0}
   Agree (Ok x) (Err y) = ⊥
   Agree (Err x) (Ok y) = ⊥
@@ -218,13 +218,13 @@ module _ {T P S : Type 0} (r : Parts T P S) (law : LawfulParts r) where
   agree-first b why next other e h = subst (λ x. Agree (andThen (unless x why) next) other) (sym e) h
 
   module _ (w : World T P S) (k : Consistent r w) (bytes fixes : List ℕ) (m : Mem r w bytes fixes) where
-    abbrev flatOf : Flat
+    abbrev pub flatOf : Flat
     flatOf = record { config = w .config; bytes = bytes; fixes = fixes }
 
     length-right : rightLength w ≡ true
     length-right = eq-eqb _ _ (m .entries .long)
 
-    counts-agree : (p key : ℕ) → keyOf (w .config .partitions) p ≡ Some key → (o : Option ℕ) → whereIs w p ≡ o → fixesOf (w .records) o ≡ getD fixes p 0
+    pub counts-agree : (p key : ℕ) → keyOf (w .config .partitions) p ≡ Some key → (o : Option ℕ) → whereIs w p ≡ o → fixesOf (w .records) o ≡ getD fixes p 0
     counts-agree p key part (Some f) e =
         let h = frame-some (w .config) (w .storage) (w .records) (k .fits .some) p f e in
         sym (ap (λ x. getD fixes x 0) (sym (h .1)) ∙ m .counts .inside f (h .0) (λ z. real-page (w .config) (k .fits) p key part (sym (h .1) ∙ z)))
@@ -242,18 +242,18 @@ module _ {T P S : Type 0} (r : Parts T P S) (law : LawfulParts r) where
           (sym (tables-right r law w k bytes fixes m p key (whereIs w p) part refl))
           (elim (flatFull flatOf p) as (λ b. Agree {A = Request} (cond b (Err AllFixed) (Ok (record { page = p; key = key; frame = whereIs w p }))) (cond b (Err AllFixed) (Ok tt))) [ true ↦ refl | false ↦ tt ]))
 
-    load-agrees : (a key : ℕ) → Agree (decodeLoad w a key) (flatLoad flatOf a key)
+    pub load-agrees : (a key : ℕ) → Agree (decodeLoad w a key) (flatLoad flatOf a key)
     unfolding decodeLoad flatLoad
     load-agrees a key = agree-first (rightLength w) Sizes _ _ length-right
         (agree-chain (unless (leb key 15) Key) _ _ (λ _ _. agree-chain (pageKey (w .config) (a / 2048)) _ _ (λ own e. room-agrees (a / 2048) own (key-ok (w .config) (a / 2048) own e))))
 
-    store-agrees : (a key : ℕ) → Agree (decodeStore w a key) (flatStore flatOf a key)
+    pub store-agrees : (a key : ℕ) → Agree (decodeStore w a key) (flatStore flatOf a key)
     unfolding decodeStore flatStore
     store-agrees a key = agree-first (rightLength w) Sizes _ _ length-right
         (agree-chain (unless (leb key 15) Key) _ _ (λ _ _. agree-chain (pageKey (w .config) (a / 2048)) _ _ (λ own e.
           agree-chain (unless (eqb key 0 || eqb key own) Protection) _ _ (λ _ _. room-agrees (a / 2048) own (key-ok (w .config) (a / 2048) own e)))))
 
-    fix-agrees : (p : ℕ) → Agree (decodeFix w p) (flatFix flatOf p)
+    pub fix-agrees : (p : ℕ) → Agree (decodeFix w p) (flatFix flatOf p)
     unfolding decodeFix flatFix
     fix-agrees p = agree-first (rightLength w) Sizes _ _ length-right
         (agree-chain (pageKey (w .config) p) _ _ (λ own e.
@@ -262,7 +262,7 @@ module _ {T P S : Type 0} (r : Parts T P S) (law : LawfulParts r) where
           (counts-agree p own part (whereIs w p) refl)
           (agree-chain (unless (ltb (fixesOf (w .records) (whereIs w p)) 255) FixLimit) _ _ (λ _ _. room-agrees p own part))))
 
-    free-agrees : (p : ℕ) → Agree (decodeFree w p) (flatFree flatOf p)
+    pub free-agrees : (p : ℕ) → Agree (decodeFree w p) (flatFree flatOf p)
     unfolding decodeFree flatFree
     free-agrees p = agree-first (rightLength w) Sizes _ _ length-right
         (agree-chain (pageKey (w .config) p) _ _ (λ own e.

@@ -11,3 +11,4 @@ pub mod Moved
 pub mod Beside
 pub mod Answered
 pub mod Start
+pub mod Runs
