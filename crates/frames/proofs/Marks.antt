@@ -32,11 +32,13 @@ pub kept-one : (marks : List ℕ) (f : ℕ) → KeysKept marks (set marks f (ref
 kept-one marks f = record {
   long = length-set marks f (referenceOff (getD marks f 0));
   each = λ i. elim (cases-eq i f) [
-      inr ne ↦ inl (getD-set-other marks f i (referenceOff (getD marks f 0)) 0 ne)
+    | inr ne ↦ inl (getD-set-other marks f i (referenceOff (getD marks f 0)) 0 ne)
     | inl e ↦ (elim (cases-lt f (length marks)) [
-          inl l ↦ inr (ap (λ k. getD (set marks f (referenceOff (getD marks f 0))) k 0) e ∙ getD-set-same marks f (referenceOff (getD marks f 0)) 0 l
-              ∙ ap (λ k. referenceOff (getD marks k 0)) (sym e))
-        | inr g ↦ inl (ap (λ l. getD l i 0) (set-past marks f (referenceOff (getD marks f 0)) g)) ]) ];
+      | inl l ↦ inr (ap (λ k. getD (set marks f (referenceOff (getD marks f 0))) k 0) e ∙ getD-set-same marks f (referenceOff (getD marks f 0)) 0 l
+          ∙ ap (λ k. referenceOff (getD marks k 0)) (sym e))
+      | inr g ↦ inl (ap (λ l. getD l i 0) (set-past marks f (referenceOff (getD marks f 0)) g))
+    ])
+  ];
 }
 
 -- nothing is altered
@@ -48,8 +50,9 @@ pub kept-then : (before mid after : List ℕ) → KeysKept before mid → KeysKe
 kept-then before mid after a b = record {
   long = b .long ∙ a .long;
   each = λ i. elim (b .each i) [
-      inl e ↦ (elim (a .each i) [ inl d ↦ inl (e ∙ d) | inr d ↦ inr (e ∙ d) ])
-    | inr e ↦ (elim (a .each i) [ inl d ↦ inr (e ∙ ap referenceOff d) | inr d ↦ inr (e ∙ ap referenceOff d ∙ off-off (getD before i 0)) ]) ];
+    | inl e ↦ (elim (a .each i) [ inl d ↦ inl (e ∙ d) | inr d ↦ inr (e ∙ d) ])
+    | inr e ↦ (elim (a .each i) [ inl d ↦ inr (e ∙ ap referenceOff d) | inr d ↦ inr (e ∙ ap referenceOff d ∙ off-off (getD before i 0)) ])
+  ];
 }
 
 -- the change bit is never altered

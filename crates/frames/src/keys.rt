@@ -3,6 +3,7 @@ ghost use Rattle.frames.specs.Keys.{referred, changed, referenceOff, reference
 
 // the values of the reference and of the change bit in a storage key
 const REFERENCE: u8 = 4;
+
 const CHANGE: u8 = 2;
 
 // Whether the frame was referred to.
@@ -23,12 +24,20 @@ pub fn is_changed(key: u8) -> bool
 pub fn reference_off(key: u8) -> u8
     ensures { λ r. ⌜ r ≡ referenceOff key ⌝ }
 {
-    if is_referred(key) { key - REFERENCE } else { key }
+    if is_referred(key) {
+        key - REFERENCE
+    } else {
+        key
+    }
 }
 
 // The key with the reference bit on, and every other bit as it was.
 pub fn reference_on(key: u8) -> u8
     ensures { λ r. ⌜ r ≡ referenceOn key ⌝ }
 {
-    if is_referred(key) { key } else { key + REFERENCE }
+    if is_referred(key) {
+        key
+    } else {
+        key + REFERENCE
+    }
 }

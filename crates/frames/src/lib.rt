@@ -1,10 +1,10 @@
 // What holds the frames that can be taken for a page, and says which of them is taken.
 mod keys;
+
 pub use keys::is_changed;
 pub use keys::is_referred;
 pub use keys::reference_off;
 pub use keys::reference_on;
-
 ghost use mathlib.Core.Path.{_≡_};
 ghost use Rattle.frames.specs.Policy.{Rules, Lawful, free, holds};
 

@@ -104,9 +104,10 @@ module _ {T P S : Type 0} (r : Parts T P S) (law : LawfulParts r) where
     -- a page whose valid entry names f: the supervisor's own, or the page that f's record names
     belongs-frame : (p f : ℕ) → InTables (w .config) p → Belongs (w .storage) p f
         → ((p < w .config .supervisor) × (f ≡ p)) ⊎ (Pageable (w .config) f × (pageIn (w .records) f ≡ p))
-    belongs-frame p f pt b = elim (cases-lt p (w .config .supervisor))
-        [ inl l ↦ inl (l, sym (named-frame (w .storage) p f p (let a = k .fits .some in let c = k .fits .few in omega arith) (d .mem .entries .low p l) b))
-        | inr l ↦ by-key (keyOf (w .config .partitions) p) refl l ]
+    belongs-frame p f pt b = elim (cases-lt p (w .config .supervisor)) [
+      | inl l ↦ inl (l, sym (named-frame (w .storage) p f p (let a = k .fits .some in let c = k .fits .few in omega arith) (d .mem .entries .low p l) b))
+      | inr l ↦ by-key (keyOf (w .config .partitions) p) refl l
+    ]
       where
         by-frame : (key : ℕ) → keyOf (w .config .partitions) p ≡ Some key → (o : Option ℕ) → whereIs w p ≡ o
             → ((p < w .config .supervisor) × (f ≡ p)) ⊎ (Pageable (w .config) f × (pageIn (w .records) f ≡ p))
@@ -127,42 +128,46 @@ module _ {T P S : Type 0} (r : Parts T P S) (law : LawfulParts r) where
     listed-frame f fp ne = let n = k .table .named f fp ne in let h = k .fits .keys _ (n .0) (n .1) .1 in omega arith
 
     each : (f : ℕ) → Pageable (w .config) f → HeldOnce r w m f ⊎ HasFixed r w m f
-    each f fp = elim (cases-eq (fixesIn (w .records) f) 0)
-        [ inl z ↦ inl (record {
-            once = k .holding .free f fp z;
-            unfixed = λ p pt fixed b.
-              let g = fixed-in p fixed in
-              let same = named-frame (w .storage) p f (g .0) (small (g .0) (g .1)) (frame-entry (g .0) p (g .1) (g .2) (fixed-page p fixed)) b in
-              let c = count-is (g .0) p (g .1) (g .2) (fixed-page p fixed) in
-              let cf = ap (fixesIn (w .records)) same in
-              omega arith;
+    each f fp = elim (cases-eq (fixesIn (w .records) f) 0) [
+      | inl z ↦ inl (record {
+        once = k .holding .free f fp z;
+        unfixed = λ p pt fixed b.
+            let g = fixed-in p fixed in
+            let same = named-frame (w .storage) p f (g .0) (small (g .0) (g .1)) (frame-entry (g .0) p (g .1) (g .2) (fixed-page p fixed)) b in
+            let c = count-is (g .0) p (g .1) (g .2) (fixed-page p fixed) in
+            let cf = ap (fixesIn (w .records)) same in
+            omega arith;
+      })
+      | inr z ↦
+          let ne : pageIn (w .records) f ≡ noPage → ⊥ = λ e. z (k .table .vacant f fp e) in
+          let c = count-is f (pageIn (w .records) f) fp refl ne in
+          inr (record {
+            not-held = k .holding .fixed f fp (omega arith);
+            page-of = pageIn (w .records) f;
+            listed = listed-frame f fp ne;
+            fixed = omega arith;
+            belongs = valid-entry (w .storage) (pageIn (w .records) f) f (small f fp) (d .mem .entries .inside f fp ne);
           })
-        | inr z ↦
-            let ne : pageIn (w .records) f ≡ noPage → ⊥ = λ e. z (k .table .vacant f fp e) in
-            let c = count-is f (pageIn (w .records) f) fp refl ne in
-            inr (record {
-              not-held = k .holding .fixed f fp (omega arith);
-              page-of = pageIn (w .records) f;
-              listed = listed-frame f fp ne;
-              fixed = omega arith;
-              belongs = valid-entry (w .storage) (pageIn (w .records) f) f (small f fp) (d .mem .entries .inside f fp ne);
-            }) ]
+    ]
 
     pub placed : Placed r w m
     placed = record {
       each-frame = each;
       each-fixed = λ p fixed.
-        let g = fixed-in p fixed in
-        let ne = fixed-page p fixed in
-        let c = count-is (g .0) p (g .1) (g .2) ne in
-        (g .0, g .1, valid-entry (w .storage) p (g .0) (small (g .0) (g .1)) (frame-entry (g .0) p (g .1) (g .2) ne), k .holding .fixed (g .0) (g .1) (omega arith));
-      apart = λ p q f pt qt bp bq. elim (belongs-frame p f pt bp)
-        [ inl a ↦ elim (belongs-frame q f qt bq)
-          [ inl b ↦ sym (a .1) ∙ b .1
-          | inr b ↦ let x = b .0 .0 in let y = a .0 in let z = a .1 in absurd (omega arith) ]
-        | inr a ↦ elim (belongs-frame q f qt bq)
-          [ inl b ↦ let x = a .0 .0 in let y = b .0 in let z = b .1 in absurd (omega arith)
-          | inr b ↦ sym (a .1) ∙ b .1 ] ];
+          let g = fixed-in p fixed in
+          let ne = fixed-page p fixed in
+          let c = count-is (g .0) p (g .1) (g .2) ne in
+          (g .0, g .1, valid-entry (w .storage) p (g .0) (small (g .0) (g .1)) (frame-entry (g .0) p (g .1) (g .2) ne), k .holding .fixed (g .0) (g .1) (omega arith));
+      apart = λ p q f pt qt bp bq. elim (belongs-frame p f pt bp) [
+        | inl a ↦ elim (belongs-frame q f qt bq) [
+          | inl b ↦ sym (a .1) ∙ b .1
+          | inr b ↦ let x = b .0 .0 in let y = a .0 in let z = a .1 in absurd (omega arith)
+        ]
+        | inr a ↦ elim (belongs-frame q f qt bq) [
+          | inl b ↦ let x = a .0 .0 in let y = b .0 in let z = b .1 in absurd (omega arith)
+          | inr b ↦ sym (a .1) ∙ b .1
+        ]
+      ];
     }
 
   -- An address whose page is in frame f: its byte, and where the walk leads.
@@ -199,7 +204,7 @@ module _ {T P S : Type 0} (r : Parts T P S) (law : LawfulParts r) where
       let k = d .brought .consistent in
       ap (realOr (2048 * f + a % 2048))
       (real-is (r .translator) (law .translator) (next .config) (k .fits) (next .records) (k .table) (next .translator) (k .good .translator) (k .paired) (next .storage) (d .long)
-        a f key (d .part) (d .brought .pageable) (d .brought .has) (d .segment) (d .entry))
+      a f key (d .part) (d .brought .pageable) (d .brought .has) (d .segment) (d .entry))
 
   -- Tests that agree: both pass, or both refuse for the same reason.
   abbrev pub Agree : {A : Type 0} → Result A Refusal → Result (Unit {0}) Refusal → Type 0
@@ -239,8 +244,8 @@ module _ {T P S : Type 0} (r : Parts T P S) (law : LawfulParts r) where
     room-agrees p key part =
         subst (λ b. Agree {A = Request} (cond b (Err AllFixed) (cond (tablesRight w p key (whereIs w p)) (Ok (record { page = p; key = key; frame = whereIs w p })) (Err Tables))) (flatRoom flatOf p)) (sym (full-agrees p key part))
         (subst (λ b. Agree {A = Request} (cond (flatFull flatOf p) (Err AllFixed) (cond b (Ok (record { page = p; key = key; frame = whereIs w p })) (Err Tables))) (flatRoom flatOf p))
-          (sym (tables-right r law w k bytes fixes m p key (whereIs w p) part refl))
-          (elim (flatFull flatOf p) as (λ b. Agree {A = Request} (cond b (Err AllFixed) (Ok (record { page = p; key = key; frame = whereIs w p }))) (cond b (Err AllFixed) (Ok tt))) [ true ↦ refl | false ↦ tt ]))
+        (sym (tables-right r law w k bytes fixes m p key (whereIs w p) part refl))
+        (elim (flatFull flatOf p) as (λ b. Agree {A = Request} (cond b (Err AllFixed) (Ok (record { page = p; key = key; frame = whereIs w p }))) (cond b (Err AllFixed) (Ok tt))) [ true ↦ refl | false ↦ tt ]))
 
     pub load-agrees : (a key : ℕ) → Agree (decodeLoad w a key) (flatLoad flatOf a key)
     unfolding decodeLoad flatLoad
@@ -251,31 +256,31 @@ module _ {T P S : Type 0} (r : Parts T P S) (law : LawfulParts r) where
     unfolding decodeStore flatStore
     store-agrees a key = agree-first (rightLength w) Sizes _ _ length-right
         (agree-chain (unless (leb key 15) Key) _ _ (λ _ _. agree-chain (pageKey (w .config) (a / 2048)) _ _ (λ own e.
-          agree-chain (unless (eqb key 0 || eqb key own) Protection) _ _ (λ _ _. room-agrees (a / 2048) own (key-ok (w .config) (a / 2048) own e)))))
+        agree-chain (unless (eqb key 0 || eqb key own) Protection) _ _ (λ _ _. room-agrees (a / 2048) own (key-ok (w .config) (a / 2048) own e)))))
 
     pub fix-agrees : (p : ℕ) → Agree (decodeFix w p) (flatFix flatOf p)
     unfolding decodeFix flatFix
     fix-agrees p = agree-first (rightLength w) Sizes _ _ length-right
         (agree-chain (pageKey (w .config) p) _ _ (λ own e.
-          let part = key-ok (w .config) p own e in
-          subst (λ n. Agree (andThen (unless (ltb (fixesOf (w .records) (whereIs w p)) 255) FixLimit) (λ _. roomAndTables w p own (whereIs w p))) (andThen (unless (ltb n 255) FixLimit) (λ _. flatRoom flatOf p)))
-          (counts-agree p own part (whereIs w p) refl)
-          (agree-chain (unless (ltb (fixesOf (w .records) (whereIs w p)) 255) FixLimit) _ _ (λ _ _. room-agrees p own part))))
+        let part = key-ok (w .config) p own e in
+        subst (λ n. Agree (andThen (unless (ltb (fixesOf (w .records) (whereIs w p)) 255) FixLimit) (λ _. roomAndTables w p own (whereIs w p))) (andThen (unless (ltb n 255) FixLimit) (λ _. flatRoom flatOf p)))
+        (counts-agree p own part (whereIs w p) refl)
+        (agree-chain (unless (ltb (fixesOf (w .records) (whereIs w p)) 255) FixLimit) _ _ (λ _ _. room-agrees p own part))))
 
     pub free-agrees : (p : ℕ) → Agree (decodeFree w p) (flatFree flatOf p)
     unfolding decodeFree flatFree
     free-agrees p = agree-first (rightLength w) Sizes _ _ length-right
         (agree-chain (pageKey (w .config) p) _ _ (λ own e.
-          let part = key-ok (w .config) p own e in
-          subst (λ n. Agree {A = Request} (andThen (unless (ltb 0 (fixesOf (w .records) (whereIs w p))) NotFixed) (λ _. cond (tablesRight w p own (whereIs w p)) (Ok (record { page = p; key = own; frame = whereIs w p })) (Err Tables))) (unless (ltb 0 n) NotFixed))
-          (counts-agree p own part (whereIs w p) refl)
-          (subst (λ b. Agree {A = Request} (andThen (unless (ltb 0 (fixesOf (w .records) (whereIs w p))) NotFixed) (λ _. cond b (Ok (record { page = p; key = own; frame = whereIs w p })) (Err Tables))) (unless (ltb 0 (fixesOf (w .records) (whereIs w p))) NotFixed))
-            (sym (tables-right r law w k bytes fixes m p own (whereIs w p) part refl))
-            (elim (ltb 0 (fixesOf (w .records) (whereIs w p))) as (λ b. Agree {A = Request} (andThen (unless b NotFixed) (λ _. Ok (record { page = p; key = own; frame = whereIs w p }))) (unless b NotFixed)) [ true ↦ tt | false ↦ refl ]))))
+        let part = key-ok (w .config) p own e in
+        subst (λ n. Agree {A = Request} (andThen (unless (ltb 0 (fixesOf (w .records) (whereIs w p))) NotFixed) (λ _. cond (tablesRight w p own (whereIs w p)) (Ok (record { page = p; key = own; frame = whereIs w p })) (Err Tables))) (unless (ltb 0 n) NotFixed))
+        (counts-agree p own part (whereIs w p) refl)
+        (subst (λ b. Agree {A = Request} (andThen (unless (ltb 0 (fixesOf (w .records) (whereIs w p))) NotFixed) (λ _. cond b (Ok (record { page = p; key = own; frame = whereIs w p })) (Err Tables))) (unless (ltb 0 (fixesOf (w .records) (whereIs w p))) NotFixed))
+        (sym (tables-right r law w k bytes fixes m p own (whereIs w p) part refl))
+        (elim (ltb 0 (fixesOf (w .records) (whereIs w p))) as (λ b. Agree {A = Request} (andThen (unless b NotFixed) (λ _. Ok (record { page = p; key = own; frame = whereIs w p }))) (unless b NotFixed)) [ true ↦ tt | false ↦ refl ]))))
 
     -- a page that has passed its tests is brought in, and memory is right
     pub reached-mem : (p : ℕ) (q : Request) → Reached w p q → full w (whereIs w p) ≡ false → Mem r (brought r (q .page) (q .key) w (q .frame)) bytes fixes
     reached-mem p q h room =
         subst (λ (x : Request). Mem r (brought r (x .page) (x .key) w (x .frame)) bytes fixes) (sym (h .is))
         (brought-mem r law w k bytes fixes m p (q .key) (whereIs w p) (h .part) refl
-          (λ none z. false≢true (sym (subst (λ o. full w o ≡ false) none room) ∙ and-from _ _ (eq-eqb _ _ z) refl)))
+        (λ none z. false≢true (sym (subst (λ o. full w o ≡ false) none room) ∙ and-from _ _ (eq-eqb _ _ z) refl)))

@@ -101,10 +101,10 @@ module _ {T P S : Type 0} (r : Parts T P S) (law : LawfulParts r) where
         let ne : pageIn (w .records) f ≡ noPage → ⊥ = eqb-false _ _ (not-true _ e) in
         record {
           entries = vacated-entries (r .store) (law .store) (w .config) (k .fits) (w .records) (k .table) (w .storage) (m .entries) f fp ne
-            (cond dirty 0 (bit15 (w .storage) (pageIn (w .records) f))) (bit-small ne dirty) (taking r w .keys) (taken-body r law w k p key part absent room long .keyed);
+              (cond dirty 0 (bit15 (w .storage) (pageIn (w .records) f))) (bit-small ne dirty) (taking r w .keys) (taken-body r law w k p key part absent room long .keyed);
           content = vacated-content (r .store) (law .store) (w .config) (k .fits) (w .records) (k .table) (w .storage) (m .entries) f fp ne
-            (cond dirty 0 (bit15 (w .storage) (pageIn (w .records) f))) (bit-small ne dirty) (taking r w .keys) (taken-body r law w k p key part absent room long .keyed)
-            (w .store) _ bytes taken-content (others ne dirty) (behind ne dirty d);
+              (cond dirty 0 (bit15 (w .storage) (pageIn (w .records) f))) (bit-small ne dirty) (taking r w .keys) (taken-body r law w k p key part absent room long .keyed)
+              (w .store) _ bytes taken-content (others ne dirty) (behind ne dirty d);
           counts = vacated-counts (r .store) (law .store) (w .config) (k .fits) (w .records) (k .table) (w .storage) (m .entries) f fp ne unfixed fixes (m .counts);
         }
 
@@ -113,14 +113,15 @@ module _ {T P S : Type 0} (r : Parts T P S) (law : LawfulParts r) where
         let h = hollow-mem (not (eqb (pageIn (w .records) f) noPage)) (changed (getD (taking r w .keys) f 0)) refl refl in
         let w1 = emptied r f (taken r w) in
         let e = emptied-body r law w k p key part absent room long (not (eqb (pageIn (w .records) f) noPage)) (changed (getD (taking r w .keys) f 0)) refl in
-        let gone : Absent (w .config) (w1 .records) p = λ g gp is. elim (cases-eq g f)
-          [ inl z ↦ real-page (w .config) (k .fits) p key part (sym is ∙ ap (pageIn (w1 .records)) z ∙ e .1)
-          | inr z ↦ absent g gp (sym (e .2 g z) ∙ is) ] in
+        let gone : Absent (w .config) (w1 .records) p = λ g gp is. elim (cases-eq g f) [
+          | inl z ↦ real-page (w .config) (k .fits) p key part (sym is ∙ ap (pageIn (w1 .records)) z ∙ e .1)
+          | inr z ↦ absent g gp (sym (e .2 g z) ∙ is)
+        ] in
         let b = cond (eqb (bit15 (w1 .storage) p) 1) zeros (readIn (r .store) (w1 .store) (p - w .config .supervisor) (frame (w1 .storage) f)) in
         let bl = filling-long r law w k p key part long absent room in
         let is : b ≡ backing (r .store) (w .config) (w1 .storage) (w1 .store) p =
-          ap (λ x. cond (eqb (bit15 (w1 .storage) p) 1) zeros x)
-          (read-in (r .store) (w1 .store) (p - w .config .supervisor) (frame (w1 .storage) f) (p-usable r law w k p key part long absent room) (into-long r law w k p key part long absent room)) in
+        ap (λ x. cond (eqb (bit15 (w1 .storage) p) 1) zeros x)
+        (read-in (r .store) (w1 .store) (p - w .config .supervisor) (frame (w1 .storage) f) (p-usable r law w k p key part long absent room) (into-long r law w k p key part long absent room)) in
         let kl : f < length (w1 .keys) = let l = e .0 .keyed .long in let a = fp .1 in let n = k .fits .few in omega arith in
         record {
           entries = connected-entries (r .store) (w .config) (k .fits) (w1 .records) (e .0 .table) (w1 .storage) (h .entries) f p key fp (e .1) part gone b bl;
@@ -216,9 +217,10 @@ module _ {T P S : Type 0} (r : Parts T P S) (law : LawfulParts r) where
   swept-mem f (suc n) w k bytes fixes m low h clean =
       let fp : Pageable (w .config) f = (low, omega arith) in
       let rest = swept-mem (f + 1) n (settledIn r f w) (settled-own r law w k f fp (m .entries .long)) bytes fixes (settled-mem w k bytes fixes m f fp) (omega arith) (omega arith)
-        (λ g a b ne. elim (cases-eq g f)
-          [ inl e ↦ ap (λ x. changed (getD (settledIn r f w .keys) x 0)) e ∙ settled-clean w k bytes fixes m f fp (λ z. ne (ap (pageIn (w .records)) e ∙ z))
-          | inr e ↦ settled-others w k bytes fixes m f fp g e ∙ clean g a (omega arith) ne ]) in
+      (λ g a b ne. elim (cases-eq g f) [
+        | inl e ↦ ap (λ x. changed (getD (settledIn r f w .keys) x 0)) e ∙ settled-clean w k bytes fixes m f fp (λ z. ne (ap (pageIn (w .records)) e ∙ z))
+        | inr e ↦ settled-others w k bytes fixes m f fp g e ∙ clean g a (omega arith) ne
+      ]) in
       record {
         mem = rest .mem;
         same-config = rest .same-config;

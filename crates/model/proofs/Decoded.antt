@@ -57,13 +57,15 @@ module _ {T P S : Type 0} (w : World T P S) where
       → Reached w p q × (full w (whereIs w p) ≡ false)
   reach p key q l k e =
       let c = room-cases w p key (whereIs w p) q (full w (whereIs w p)) (tablesRight w p key (whereIs w p)) e in
-      let ky : key ≡ q .key = ap (λ (x : Request). x .key) (sym (c .2)) in
-      (record {
-        long = eqb-true _ _ l;
-        part = key-ok (w .config) p key k ∙ ap Some ky;
-        is = c .2 ∙ ap (λ x. record { page = p; key = x; frame = whereIs w p }) ky;
-        tables = ap (λ x. tablesRight w p x (whereIs w p)) (sym ky) ∙ c .1;
-      }, c .0)
+      let ky : key ≡ q .key = ap (λ (x : Request). x .key) (sym (c .2)) in (
+        record {
+          long = eqb-true _ _ l;
+          part = key-ok (w .config) p key k ∙ ap Some ky;
+          is = c .2 ∙ ap (λ x. record { page = p; key = x; frame = whereIs w p }) ky;
+          tables = ap (λ x. tablesRight w p x (whereIs w p)) (sym ky) ∙ c .1;
+        },
+        c .0,
+      )
 
   pub load-ok : (a key : ℕ) (q : Request) → decodeLoad w a key ≡ Ok q → Reached w (a / 2048) q × (full w (whereIs w (a / 2048)) ≡ false)
   unfolding decodeLoad
@@ -104,26 +106,30 @@ module _ {T P S : Type 0} (w : World T P S) where
       let z = chain-ok (pageKey (w .config) p) _ q (x .2) in
       let v = chain-ok (unless (ltb 0 (fixesOf (w .records) (whereIs w p))) NotFixed) _ q (z .2) in
       let c = free-cases p (z .0) (whereIs w p) q (tablesRight w p (z .0) (whereIs w p)) (v .2) in
-      let ky : z .0 ≡ q .key = ap (λ (y : Request). y .key) (sym (c .1)) in
-      (record {
-        long = eqb-true _ _ (unless-ok (rightLength w) Sizes (x .0) (x .1));
-        part = key-ok (w .config) p (z .0) (z .1) ∙ ap Some ky;
-        is = c .1 ∙ ap (λ y. record { page = p; key = y; frame = whereIs w p }) ky;
-        tables = ap (λ y. tablesRight w p y (whereIs w p)) (sym ky) ∙ c .0;
-      }, ltb-true _ _ (unless-ok (ltb 0 (fixesOf (w .records) (whereIs w p))) NotFixed (v .0) (v .1)))
+      let ky : z .0 ≡ q .key = ap (λ (y : Request). y .key) (sym (c .1)) in (
+        record {
+          long = eqb-true _ _ (unless-ok (rightLength w) Sizes (x .0) (x .1));
+          part = key-ok (w .config) p (z .0) (z .1) ∙ ap Some ky;
+          is = c .1 ∙ ap (λ y. record { page = p; key = y; frame = whereIs w p }) ky;
+          tables = ap (λ y. tablesRight w p y (whereIs w p)) (sym ky) ∙ c .0;
+        },
+        ltb-true _ _ (unless-ok (ltb 0 (fixesOf (w .records) (whereIs w p))) NotFixed (v .0) (v .1)),
+      )
 
   pub purge-ok : (x : Unit {0}) → decodePurge w ≡ Ok x → (length (w .storage) ≡ 2048 * w .config .frames)
       × ((segmentsAre (w .config) (w .storage) 0 (segmentEntries (w .config)) && entriesAre (w .config) (w .storage) (w .records) 0 (32 * segments (w .config))) ≡ true)
   unfolding decodePurge
   purge-ok x e =
-      let y = chain-ok (unless (rightLength w) Sizes) _ x e in
-      (eqb-true _ _ (unless-ok (rightLength w) Sizes (y .0) (y .1)),
-       unless-ok (segmentsAre (w .config) (w .storage) 0 (segmentEntries (w .config)) && entriesAre (w .config) (w .storage) (w .records) 0 (32 * segments (w .config))) Tables x (y .2))
+      let y = chain-ok (unless (rightLength w) Sizes) _ x e in (
+        eqb-true _ _ (unless-ok (rightLength w) Sizes (y .0) (y .1)),
+        unless-ok (segmentsAre (w .config) (w .storage) 0 (segmentEntries (w .config)) && entriesAre (w .config) (w .storage) (w .records) 0 (32 * segments (w .config))) Tables x (y .2),
+      )
 
   pub settle-ok : (x : Unit {0}) → decodeSettle w ≡ Ok x → (length (w .storage) ≡ 2048 * w .config .frames)
       × (framesAre (w .config) (w .storage) (w .records) (w .config .supervisor) (w .config .frames - w .config .supervisor) ≡ true)
   unfolding decodeSettle
   settle-ok x e =
-      let y = chain-ok (unless (rightLength w) Sizes) _ x e in
-      (eqb-true _ _ (unless-ok (rightLength w) Sizes (y .0) (y .1)),
-       unless-ok (framesAre (w .config) (w .storage) (w .records) (w .config .supervisor) (w .config .frames - w .config .supervisor)) Tables x (y .2))
+      let y = chain-ok (unless (rightLength w) Sizes) _ x e in (
+        eqb-true _ _ (unless-ok (rightLength w) Sizes (y .0) (y .1)),
+        unless-ok (framesAre (w .config) (w .storage) (w .records) (w .config .supervisor) (w .config .frames - w .config .supervisor)) Tables x (y .2),
+      )

@@ -65,7 +65,11 @@ module _ {T P S : Type 0} (r : Parts T P S) (law : LawfulParts r) (c : Config) (
   pub body-keys : (ks new : List ℕ) (rs : List FrameRecord) (t : T) (st : S) → Body r c ks rs t st → length new ≡ length ks
       → ((g : ℕ) → accessOf (getD new g 0) ≡ accessOf (getD ks g 0)) → Body r c new rs t st
   body-keys ks new rs t st b l same = record {
-    good-translator = b .good-translator; good-store = b .good-store; table = b .table; paired = b .paired; slots = b .slots;
+    good-translator = b .good-translator;
+    good-store = b .good-store;
+    table = b .table;
+    paired = b .paired;
+    slots = b .slots;
     keyed = keyed-keys c fit rs ks (b .keyed) new l same;
   }
 
@@ -83,8 +87,12 @@ module _ {T P S : Type 0} (r : Parts T P S) (law : LawfulParts r) (c : Config) (
     body-out bytes q key e l =
         let k = slots-put (r .store) (law .store) c st (b .good-store) (b .slots) (q - c .supervisor) bytes (slot-of q key e) l in
         record {
-          good-translator = b .good-translator; table = b .table; keyed = b .keyed; paired = b .paired;
-          good-store = k .1; slots = k .0;
+          good-translator = b .good-translator;
+          table = b .table;
+          keyed = b .keyed;
+          paired = b .paired;
+          good-store = k .1;
+          slots = k .0;
         }
 
     -- f loses its page, whose pairs are forgotten
@@ -101,11 +109,11 @@ module _ {T P S : Type 0} (r : Parts T P S) (law : LawfulParts r) (c : Config) (
           paired = record {
             words = law .translator .forget-controls t (pageIn rs f) (b .good-translator) ∙ b .paired .words;
             each = λ p start h.
-              let e = b .paired .each p start (law .translator .forget-adds-none t (pageIn rs f) p start (b .good-translator) h) in
-              let other : e .0 ≡ f → ⊥ = λ z.
+                let e = b .paired .each p start (law .translator .forget-adds-none t (pageIn rs f) p start (b .good-translator) h) in
+                let other : e .0 ≡ f → ⊥ = λ z.
                 let same : pageIn rs f ≡ p = ap (pageIn rs) (sym z) ∙ e .2 in
                 false≢true (sym (law .translator .forget-ends t (pageIn rs f) start (b .good-translator)) ∙ subst (λ x. r .translator .vouches (r .translator .forget t (pageIn rs f)) x start ≡ true) (sym same) h) in
-              (e .0, e .1, page-there rs f v (e .0) other ∙ e .2, e .3, e .4);
+                (e .0, e .1, page-there rs f v (e .0) other ∙ e .2, e .3, e .4);
           };
         }
 
@@ -117,26 +125,29 @@ module _ {T P S : Type 0} (r : Parts T P S) (law : LawfulParts r) (c : Config) (
         let v : FrameRecord = record { page = p; fixes = fixesIn rs f } in
         let kl : f < length ks = let l = b .keyed .long in let h = fp .1 in let n = fit .few in omega arith in
         record {
-          good-translator = b .good-translator; good-store = b .good-store; slots = b .slots;
+          good-translator = b .good-translator;
+          good-store = b .good-store;
+          slots = b .slots;
           table = table-put c fit rs (b .table) f v fp (λ _. (key, part)) (λ z. absurd (real-page c fit p key part z)) (λ _ g gp gf e. absent g gp e);
           keyed = record {
             long = length-set ks f (16 * key) ∙ b .keyed .long;
-            access = λ g y gp e. elim (cases-eq g f)
-              [ inl q ↦
+            access = λ g y gp e. elim (cases-eq g f) [
+              | inl q ↦
                   let pg : pageIn (set rs f v) g ≡ p = ap (pageIn (set rs f v)) q ∙ page-here rs f v fl in
                   let both : Some key ≡ Some y = sym part ∙ ap (keyOf (c .partitions)) (sym pg) ∙ e in
                   let ky : key ≡ y = cc in
                   ap (λ x. accessOf (getD (set ks f (16 * key)) x 0)) q ∙ ap accessOf (getD-set-same ks f (16 * key) 0 kl) ∙ (let z : 16 * key / 16 ≡ key = omega arith in z) ∙ ky
-              | inr q ↦ ap accessOf (getD-set-other ks f g (16 * key) 0 q) ∙ b .keyed .access g y gp (ap (keyOf (c .partitions)) (sym (page-there rs f v g q)) ∙ e) ];
+              | inr q ↦ ap accessOf (getD-set-other ks f g (16 * key) 0 q) ∙ b .keyed .access g y gp (ap (keyOf (c .partitions)) (sym (page-there rs f v g q)) ∙ e)
+            ];
           };
           paired = record {
             words = b .paired .words;
             each = λ q start h.
-              let e = b .paired .each q start h in
-              let other : e .0 ≡ f → ⊥ = λ z.
+                let e = b .paired .each q start h in
+                let other : e .0 ≡ f → ⊥ = λ z.
                 let same : q ≡ noPage = sym (e .2) ∙ ap (pageIn rs) z ∙ none in
                 let qv = e .3 in let m = fit .most in omega arith in
-              (e .0, e .1, page-there rs f v (e .0) other ∙ e .2, e .3, e .4);
+                (e .0, e .1, page-there rs f v (e .0) other ∙ e .2, e .3, e .4);
           };
         }
 
@@ -149,13 +160,19 @@ pub record Handed {P : Type 0} (r : policies.Rules P) (c : Config) (rs : List Fr
 module _ {P : Type 0} (r : policies.Rules P) (law : policies.Lawful r) (c : Config) (fit : Fits c) (rs : List FrameRecord) (m : P) (good : r .good m)
     (h : Holding r c rs m) (room : fixedIn rs (c .supervisor) (c .frames - c .supervisor) ≡ c .frames - c .supervisor → ⊥) where
   one-held : (f : ℕ) → r .times m f ≡ 1 → Pageable c f × (fixesIn rs f ≡ 0)
-  one-held f e = elim (cases-lt f (c .supervisor))
-      [ inl l ↦ let z = h .other f (inl l) in absurd (omega arith)
-      | inr l ↦ elim (cases-lt f (c .frames))
-        [ inr n ↦ let z = h .other f (inr n) in absurd (omega arith)
-        | inl n ↦ ((l, n), elim (cases-eq (fixesIn rs f) 0)
-          [ inl z ↦ z
-          | inr z ↦ let q = h .fixed f (l, n) (omega arith) in absurd (omega arith) ]) ] ]
+  one-held f e = elim (cases-lt f (c .supervisor)) [
+    | inl l ↦ let z = h .other f (inl l) in absurd (omega arith)
+    | inr l ↦ elim (cases-lt f (c .frames)) [
+      | inr n ↦ let z = h .other f (inr n) in absurd (omega arith)
+      | inl n ↦ (
+        (l, n),
+        elim (cases-eq (fixesIn rs f) 0) [
+          | inl z ↦ z
+          | inr z ↦ let q = h .fixed f (l, n) (omega arith) in absurd (omega arith)
+        ],
+      )
+    ]
+  ]
 
   some-held : (g : ℕ) × (r .times m g ≡ 1)
   some-held =
@@ -178,9 +195,10 @@ module _ {P : Type 0} (r : policies.Rules P) (law : policies.Lawful r) (c : Conf
       subst (Handed r c rs m left) (sym is) (record {
         pageable = fp;
         unfixed = k .1;
-        again = λ g. law .enter-times left f g gl ∙ elim (cases-eq g f)
-          [ inl e ↦ ap (λ b. cond (b && policies.free r left f) 1 (r .times left g)) (eq-eqb g f e) ∙ ap (λ b. cond b 1 (r .times left g)) free ∙ sym (ap (r .times m) e ∙ picks .0)
-          | inr e ↦ ap (λ b. cond (b && policies.free r left f) 1 (r .times left g)) (ne-eqb g f e) ∙ picks .1 g ∙ ap (λ b. cond b 0 (r .times m g)) (ne-eqb g f e) ];
+        again = λ g. law .enter-times left f g gl ∙ elim (cases-eq g f) [
+          | inl e ↦ ap (λ b. cond (b && policies.free r left f) 1 (r .times left g)) (eq-eqb g f e) ∙ ap (λ b. cond b 1 (r .times left g)) free ∙ sym (ap (r .times m) e ∙ picks .0)
+          | inr e ↦ ap (λ b. cond (b && policies.free r left f) 1 (r .times left g)) (ne-eqb g f e) ∙ picks .1 g ∙ ap (λ b. cond b 0 (r .times m g)) (ne-eqb g f e)
+        ];
       })
 
 -- The whole fault.
@@ -226,15 +244,18 @@ module _ {T P S : Type 0} (r : Parts T P S) (law : LawfulParts r) (w : World T P
       let named = k .table .named f (h .pageable) ne in
       let b1 = taken-body in
       let b2 : Body r (w .config) (taking r w .keys) (w .records) (w .translator) (cond dirty (putOut (r .store) (w .store) (pageIn (w .records) f - w .config .supervisor) (frame (w .storage) f)) (w .store)) =
-        elim dirty as (λ d. Body r (w .config) (taking r w .keys) (w .records) (w .translator) (cond d (putOut (r .store) (w .store) (pageIn (w .records) f - w .config .supervisor) (frame (w .storage) f)) (w .store)))
-        [ true ↦ body-out r law (w .config) (k .fits) (taking r w .keys) (w .records) (w .translator) (w .store) b1 f (h .pageable) (frame (w .storage) f) (pageIn (w .records) f) (named .0) (named .1) frame-long
-        | false ↦ b1 ] in
-      (body-vacate r law (w .config) (k .fits) (taking r w .keys) (w .records) (w .translator) _ b2 f (h .pageable) (h .unfixed) ne,
-       page-here (w .records) f v fl,
-       page-there (w .records) f v,
-       λ g. elim (cases-eq g f)
-         [ inl q ↦ ap (fixesIn (set (w .records) f v)) q ∙ fixes-here (w .records) f v fl ∙ ap (fixesIn (w .records)) (sym q)
-         | inr q ↦ fixes-there (w .records) f v g q ])
+      elim dirty as (λ d. Body r (w .config) (taking r w .keys) (w .records) (w .translator) (cond d (putOut (r .store) (w .store) (pageIn (w .records) f - w .config .supervisor) (frame (w .storage) f)) (w .store))) [
+        | true ↦ body-out r law (w .config) (k .fits) (taking r w .keys) (w .records) (w .translator) (w .store) b1 f (h .pageable) (frame (w .storage) f) (pageIn (w .records) f) (named .0) (named .1) frame-long
+        | false ↦ b1
+      ] in (
+        body-vacate r law (w .config) (k .fits) (taking r w .keys) (w .records) (w .translator) _ b2 f (h .pageable) (h .unfixed) ne,
+        page-here (w .records) f v fl,
+        page-there (w .records) f v,
+        λ g. elim (cases-eq g f) [
+          | inl q ↦ ap (fixesIn (set (w .records) f v)) q ∙ fixes-here (w .records) f v fl ∙ ap (fixesIn (w .records)) (sym q)
+          | inr q ↦ fixes-there (w .records) f v g q
+        ],
+      )
 
   pub faulted-own : Brought r p w the-frame (faulted r the-frame p key w)
   faulted-own =
@@ -244,17 +265,19 @@ module _ {T P S : Type 0} (r : Parts T P S) (law : LawfulParts r) (w : World T P
       let e = emptied-body (not (eqb (pageIn (w .records) f) noPage)) (changed (getD (taking r w .keys) f 0)) refl in
       let v : FrameRecord = record { page = p; fixes = fixesIn (w1 .records) f } in
       let fl = in-table (w .config) (k .fits) (w1 .records) (e .0 .table) f (h .pageable .1) in
-      let gone : (g : ℕ) → Pageable (w .config) g → pageIn (w1 .records) g ≡ p → ⊥ = λ g gp is. elim (cases-eq g f)
-        [ inl q ↦ real-page (w .config) (k .fits) p key part (sym is ∙ ap (pageIn (w1 .records)) q ∙ e .1)
-        | inr q ↦ absent g gp (sym (e .2 g q) ∙ is) ] in
+      let gone : (g : ℕ) → Pageable (w .config) g → pageIn (w1 .records) g ≡ p → ⊥ = λ g gp is. elim (cases-eq g f) [
+        | inl q ↦ real-page (w .config) (k .fits) p key part (sym is ∙ ap (pageIn (w1 .records)) q ∙ e .1)
+        | inr q ↦ absent g gp (sym (e .2 g q) ∙ is)
+      ] in
       let b = body-connect r law (w .config) (k .fits) (w1 .keys) (w1 .records) (w1 .translator) (w1 .store) (e .0) f (h .pageable) p key part (e .1) gone in
-      let fixes : (g : ℕ) → fixesIn (set (w1 .records) f v) g ≡ fixesIn (w .records) g = λ g. elim (cases-eq g f)
-        [ inl q ↦ ap (fixesIn (set (w1 .records) f v)) q ∙ fixes-here (w1 .records) f v fl ∙ e .3 f ∙ ap (fixesIn (w .records)) (sym q)
-        | inr q ↦ fixes-there (w1 .records) f v g q ∙ e .3 g ] in
+      let fixes : (g : ℕ) → fixesIn (set (w1 .records) f v) g ≡ fixesIn (w .records) g = λ g. elim (cases-eq g f) [
+        | inl q ↦ ap (fixesIn (set (w1 .records) f v)) q ∙ fixes-here (w1 .records) f v fl ∙ e .3 f ∙ ap (fixesIn (w .records)) (sym q)
+        | inr q ↦ fixes-there (w1 .records) f v g q ∙ e .3 g
+      ] in
       record {
         consistent = whole r (faulted r f p key w) (k .fits) b
-          (law .policy .enter-good (taking r w .left) f (law .policy .take-good (w .policy) (w .keys) (k .good .policy)))
-          (holding-same (r .policy) (w .config) (w .records) (set (w1 .records) f v) (w .policy) (r .policy .enter (taking r w .left) f) (k .holding) (h .again) fixes);
+            (law .policy .enter-good (taking r w .left) f (law .policy .take-good (w .policy) (w .keys) (k .good .policy)))
+            (holding-same (r .policy) (w .config) (w .records) (set (w1 .records) f v) (w .policy) (r .policy .enter (taking r w .left) f) (k .holding) (h .again) fixes);
         pageable = h .pageable;
         has = page-here (w1 .records) f v fl;
         same-config = refl;

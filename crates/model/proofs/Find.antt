@@ -20,19 +20,22 @@ pub found-some : (rs : List FrameRecord) (p f n g : ℕ) → foundIn rs p f n �
 unfolding foundIn
 found-some rs p f zero g e = let z : _≡_ {A = ℕ} 0 1 = cc in absurd (omega arith)
 found-some rs p f (suc n) g e =
-    (elim (eqb (pageIn rs f) p) as (λ b. eqb (pageIn rs f) p ≡ b → cond b (Some f) (foundIn rs p (f + 1) n) ≡ Some g → (f ≤ g) × (g < f + suc n) × (pageIn rs g ≡ p))
-      [ true ↦ λ t q. let s : f ≡ g = cc in (omega arith, omega arith, subst (λ k. pageIn rs k ≡ p) s (eqb-true _ _ t))
-      | false ↦ λ t q. let k = found-some rs p (f + 1) n g q in let a = k .0 in let b = k .1 in (omega arith, omega arith, k .2) ]) refl e
+    (elim (eqb (pageIn rs f) p) as (λ b. eqb (pageIn rs f) p ≡ b → cond b (Some f) (foundIn rs p (f + 1) n) ≡ Some g → (f ≤ g) × (g < f + suc n) × (pageIn rs g ≡ p)) [
+      | true ↦ λ t q. let s : f ≡ g = cc in (omega arith, omega arith, subst (λ k. pageIn rs k ≡ p) s (eqb-true _ _ t))
+      | false ↦ λ t q. let k = found-some rs p (f + 1) n g q in let a = k .0 in let b = k .1 in (omega arith, omega arith, k .2)
+    ]) refl e
 
 pub found-none : (rs : List FrameRecord) (p f n : ℕ) → foundIn rs p f n ≡ None → (g : ℕ) → f ≤ g → g < f + n → pageIn rs g ≡ p → ⊥
 unfolding foundIn
 found-none rs p f zero e g h k = absurd (omega arith)
 found-none rs p f (suc n) e g h k =
-    (elim (eqb (pageIn rs f) p) as (λ b. eqb (pageIn rs f) p ≡ b → cond b (Some f) (foundIn rs p (f + 1) n) ≡ None → pageIn rs g ≡ p → ⊥)
-      [ true ↦ λ t q. let z : _≡_ {A = ℕ} 0 1 = cc in absurd (omega arith)
-      | false ↦ λ t q. elim (cases-eq g f)
-          [ inl s ↦ λ is. eqb-false _ _ t (ap (pageIn rs) (sym s) ∙ is)
-          | inr s ↦ found-none rs p (f + 1) n q g (omega arith) (omega arith) ] ]) refl e
+    (elim (eqb (pageIn rs f) p) as (λ b. eqb (pageIn rs f) p ≡ b → cond b (Some f) (foundIn rs p (f + 1) n) ≡ None → pageIn rs g ≡ p → ⊥) [
+      | true ↦ λ t q. let z : _≡_ {A = ℕ} 0 1 = cc in absurd (omega arith)
+      | false ↦ λ t q. elim (cases-eq g f) [
+        | inl s ↦ λ is. eqb-false _ _ t (ap (pageIn rs) (sym s) ∙ is)
+        | inr s ↦ found-none rs p (f + 1) n q g (omega arith) (omega arith)
+      ]
+    ]) refl e
 
 module _ (c : Config) (s : List ℕ) (rs : List FrameRecord) (some : c .supervisor < c .frames) where
   looked : (p : ℕ) (b : Bool) → (leb (c .supervisor) (named s p) && (ltb (named s p) (c .frames) && eqb (pageIn rs (named s p)) p)) ≡ b
@@ -132,25 +135,27 @@ counted-same P Q f (suc n) h =
 pub counted-up : (P Q : ℕ → Bool) (f n h : ℕ) → f ≤ h → h < f + n → P h ≡ false → Q h ≡ true → ((g : ℕ) → (g ≡ h → ⊥) → Q g ≡ P g) → counted Q f n ≡ counted P f n + 1
 unfolding counted
 counted-up P Q f zero h a b p q same = absurd (omega arith)
-counted-up P Q f (suc n) h a b p q same = elim (cases-eq f h)
-    [ inl e ↦
-        let rest = counted-same P Q (f + 1) n (λ g x y. same g (λ z. omega arith)) in
-        let q1 : _≡_ {A = ℕ} (cond (Q f) 1 0) 1 = ap (λ b. cond b 1 0) (ap Q e ∙ q) in
-        let p1 : _≡_ {A = ℕ} (cond (P f) 1 0) 0 = ap (λ b. cond b 1 0) (ap P e ∙ p) in
-        omega (arith, rest, q1, p1)
-    | inr e ↦
-        let rest = counted-up P Q (f + 1) n h (omega arith) (omega arith) p q same in
-        let s : _≡_ {A = ℕ} (cond (Q f) 1 0) (cond (P f) 1 0) = ap (λ b. cond b 1 0) (same f e) in
-        omega (arith, rest, s) ]
+counted-up P Q f (suc n) h a b p q same = elim (cases-eq f h) [
+  | inl e ↦
+      let rest = counted-same P Q (f + 1) n (λ g x y. same g (λ z. omega arith)) in
+      let q1 : _≡_ {A = ℕ} (cond (Q f) 1 0) 1 = ap (λ b. cond b 1 0) (ap Q e ∙ q) in
+      let p1 : _≡_ {A = ℕ} (cond (P f) 1 0) 0 = ap (λ b. cond b 1 0) (ap P e ∙ p) in
+      omega (arith, rest, q1, p1)
+  | inr e ↦
+      let rest = counted-up P Q (f + 1) n h (omega arith) (omega arith) p q same in
+      let s : _≡_ {A = ℕ} (cond (Q f) 1 0) (cond (P f) 1 0) = ap (λ b. cond b 1 0) (same f e) in
+      omega (arith, rest, s)
+]
 
 pub counted-room : (P : ℕ → Bool) (f n : ℕ) → (counted P f n ≡ n → ⊥) → (g : ℕ) × (f ≤ g) × (g < f + n) × (P g ≡ false)
 unfolding counted
 counted-room P f zero h = absurd (h refl)
 counted-room P f (suc n) h =
-    (elim (P f) as (λ b. P f ≡ b → (cond b 1 0 + counted P (f + 1) n ≡ suc n → ⊥) → (g : ℕ) × (f ≤ g) × (g < f + suc n) × (P g ≡ false))
-      [ false ↦ λ t k. (f, omega arith, omega arith, t)
+    (elim (P f) as (λ b. P f ≡ b → (cond b 1 0 + counted P (f + 1) n ≡ suc n → ⊥) → (g : ℕ) × (f ≤ g) × (g < f + suc n) × (P g ≡ false)) [
+      | false ↦ λ t k. (f, omega arith, omega arith, t)
       | true ↦ λ t k.
           let r = counted-room P (f + 1) n (λ e. k (omega (arith, e))) in
           let a = r .1 in
           let b = r .2 in
-          (r .0, omega arith, omega arith, r .3) ]) refl h
+          (r .0, omega arith, omega arith, r .3)
+    ]) refl h

@@ -42,12 +42,15 @@ module _ {T P S : Type 0} (r : Parts T P S) (law : LawfulParts r) where
     marked-body =
         let k = d .brought .consistent in
         let b = body-keys r law (next .config) (k .fits) (next .keys) (set (next .keys) f mark) (next .records) (next .translator) (next .store) (body r next k)
-          (length-set (next .keys) f mark) (access-set (next .keys) f mark same) in
+        (length-set (next .keys) f mark) (access-set (next .keys) f mark same) in
         record {
           good-translator = law .translator .translate-good (next .translator) (next .storage) a (k .good .translator);
-          good-store = b .good-store; table = b .table; keyed = b .keyed; slots = b .slots;
+          good-store = b .good-store;
+          table = b .table;
+          keyed = b .keyed;
+          slots = b .slots;
           paired = asked-paired (r .translator) (law .translator) (next .config) (k .fits) (next .records) (k .table) (next .translator) (k .good .translator) (k .paired)
-            (next .storage) (d .long) a f key (d .part) (d .brought .pageable) (d .brought .has) (d .segment) (d .entry);
+              (next .storage) (d .long) a f key (d .part) (d .brought .pageable) (d .brought .has) (d .segment) (d .entry);
         }
 
     touched : Holding (r .policy) (next .config) (next .records) (r .policy .touch (next .policy) f)
@@ -80,15 +83,18 @@ module _ {T P S : Type 0} (r : Parts T P S) (law : LawfulParts r) where
     fits-table = in-table (w .config) (k .fits) (w .records) (k .table) f (fp .1)
 
     pub same-pages : (g : ℕ) → pageIn counts g ≡ pageIn (w .records) g
-    same-pages g = elim (cases-eq g f)
-        [ inl q ↦ ap (pageIn counts) q ∙ page-here (w .records) f _ fits-table ∙ ap (pageIn (w .records)) (sym q)
-        | inr q ↦ page-there (w .records) f _ g q ]
+    same-pages g = elim (cases-eq g f) [
+      | inl q ↦ ap (pageIn counts) q ∙ page-here (w .records) f _ fits-table ∙ ap (pageIn (w .records)) (sym q)
+      | inr q ↦ page-there (w .records) f _ g q
+    ]
 
     counted-body : Body r (w .config) (w .keys) counts (w .translator) (w .store)
     counted-body =
         let b = body r w k in
         record {
-          good-translator = b .good-translator; good-store = b .good-store; slots = b .slots;
+          good-translator = b .good-translator;
+          good-store = b .good-store;
+          slots = b .slots;
           table = table-count (w .config) (k .fits) (w .records) (k .table) f n fp ne;
           keyed = keyed-put (w .config) (k .fits) (w .records) (w .keys) (k .keyed) f (record { page = pageIn (w .records) f; fixes = n }) fits-table (λ key e. k .keyed .access f key fp e);
           paired = paired-same (r .translator) (w .config) (w .records) counts (w .translator) (k .paired) same-pages;
@@ -98,12 +104,14 @@ module _ {T P S : Type 0} (r : Parts T P S) (law : LawfulParts r) where
     counted-holding : (m : P) → ((g : ℕ) → (g ≡ f → ⊥) → r .policy .times m g ≡ r .policy .times (w .policy) g)
         → (n ≡ 0 → r .policy .times m f ≡ 1) → (0 < n → r .policy .times m f ≡ 0) → Holding (r .policy) (w .config) counts m
     counted-holding m others none some = record {
-      free = λ g gp e. elim (cases-eq g f)
-        [ inl q ↦ ap (r .policy .times m) q ∙ none (sym (ap (fixesIn counts) q ∙ fixes-here (w .records) f _ fits-table) ∙ e)
-        | inr q ↦ others g q ∙ k .holding .free g gp (sym (fixes-there (w .records) f _ g q) ∙ e) ];
-      fixed = λ g gp l. elim (cases-eq g f)
-        [ inl q ↦ ap (r .policy .times m) q ∙ some (subst (λ x. 0 < x) (ap (fixesIn counts) q ∙ fixes-here (w .records) f _ fits-table) l)
-        | inr q ↦ others g q ∙ k .holding .fixed g gp (subst (λ x. 0 < x) (fixes-there (w .records) f _ g q) l) ];
+      free = λ g gp e. elim (cases-eq g f) [
+        | inl q ↦ ap (r .policy .times m) q ∙ none (sym (ap (fixesIn counts) q ∙ fixes-here (w .records) f _ fits-table) ∙ e)
+        | inr q ↦ others g q ∙ k .holding .free g gp (sym (fixes-there (w .records) f _ g q) ∙ e)
+      ];
+      fixed = λ g gp l. elim (cases-eq g f) [
+        | inl q ↦ ap (r .policy .times m) q ∙ some (subst (λ x. 0 < x) (ap (fixesIn counts) q ∙ fixes-here (w .records) f _ fits-table) l)
+        | inr q ↦ others g q ∙ k .holding .fixed g gp (subst (λ x. 0 < x) (fixes-there (w .records) f _ g q) l)
+      ];
       other = λ g o. others g (λ q. outside g q o) ∙ k .holding .other g o;
     }
       where
@@ -122,17 +130,17 @@ module _ {T P S : Type 0} (r : Parts T P S) (law : LawfulParts r) where
           whole r (fixedIn1 r f w) (k .fits) (counted-body w k f (fixesIn (w .records) f + 1) fp ne)
           (subst (r .policy .good) (sym pol) (law .policy .leave-good (w .policy) f (k .good .policy)))
           (subst (Holding (r .policy) (w .config) (counts w k f (fixesIn (w .records) f + 1) fp ne)) (sym pol)
-            (counted-holding w k f (fixesIn (w .records) f + 1) fp ne (r .policy .leave (w .policy) f)
-              (λ g q. gone g ∙ ap (λ b. cond b 0 (r .policy .times (w .policy) g)) (ne-eqb g f q))
-              (λ z. absurd (omega arith))
-              (λ _. gone f ∙ ap (λ b. cond b 0 (r .policy .times (w .policy) f)) (eq-eqb f f refl))))
+          (counted-holding w k f (fixesIn (w .records) f + 1) fp ne (r .policy .leave (w .policy) f)
+          (λ g q. gone g ∙ ap (λ b. cond b 0 (r .policy .times (w .policy) g)) (ne-eqb g f q))
+          (λ z. absurd (omega arith))
+          (λ _. gone f ∙ ap (λ b. cond b 0 (r .policy .times (w .policy) f)) (eq-eqb f f refl))))
       by-count false e =
           let pos : 0 < fixesIn (w .records) f = let z = eqb-false _ _ e in elim (cases-eq (fixesIn (w .records) f) 0) [ inl q ↦ absurd (z q) | inr q ↦ omega arith ] in
           let pol : cond (eqb (fixesIn (w .records) f) 0) (r .policy .leave (w .policy) f) (w .policy) ≡ w .policy = ap (λ b. cond b (r .policy .leave (w .policy) f) (w .policy)) e in
           whole r (fixedIn1 r f w) (k .fits) (counted-body w k f (fixesIn (w .records) f + 1) fp ne)
           (subst (r .policy .good) (sym pol) (k .good .policy))
           (subst (Holding (r .policy) (w .config) (counts w k f (fixesIn (w .records) f + 1) fp ne)) (sym pol)
-            (counted-holding w k f (fixesIn (w .records) f + 1) fp ne (w .policy) (λ g q. refl) (λ z. absurd (omega arith)) (λ _. k .holding .fixed f fp pos)))
+          (counted-holding w k f (fixesIn (w .records) f + 1) fp ne (w .policy) (λ g q. refl) (λ z. absurd (omega arith)) (λ _. k .holding .fixed f fp pos)))
 
   -- a page freed once
   pub freed-own : (w : World T P S) → Consistent r w → (f : ℕ) → Pageable (w .config) f → (pageIn (w .records) f ≡ noPage → ⊥) → 0 < fixesIn (w .records) f → Consistent r (freedIn r f w)
@@ -147,23 +155,23 @@ module _ {T P S : Type 0} (r : Parts T P S) (law : LawfulParts r) where
           let f256 : f < 256 = let a = fp .1 in let b = k .fits .few in omega arith in
           let enterable : policies.free (r .policy) (w .policy) f ≡ true = and-from _ _ (lt-ltb f 256 f256) (eq-eqb _ _ was) in
           let back : (g : ℕ) → r .policy .times (r .policy .give-back (w .policy) f rf ch) g ≡ cond (eqb g f && policies.free (r .policy) (w .policy) f) 1 (r .policy .times (w .policy) g) =
-            λ g. law .policy .back-times (w .policy) f g rf ch (k .good .policy) in
+          λ g. law .policy .back-times (w .policy) f g rf ch (k .good .policy) in
           let pol : cond (eqb (fixesIn (w .records) f) 1) (r .policy .give-back (w .policy) f rf ch) (w .policy) ≡ r .policy .give-back (w .policy) f rf ch = ap (λ b. cond b (r .policy .give-back (w .policy) f rf ch) (w .policy)) e in
           whole r (freedIn r f w) (k .fits) (counted-body w k f (fixesIn (w .records) f - 1) fp ne)
           (subst (r .policy .good) (sym pol) (law .policy .back-good (w .policy) f rf ch (k .good .policy)))
           (subst (Holding (r .policy) (w .config) (counts w k f (fixesIn (w .records) f - 1) fp ne)) (sym pol)
-            (counted-holding w k f (fixesIn (w .records) f - 1) fp ne (r .policy .give-back (w .policy) f rf ch)
-              (λ g q. back g ∙ ap (λ b. cond (b && policies.free (r .policy) (w .policy) f) 1 (r .policy .times (w .policy) g)) (ne-eqb g f q))
-              (λ _. back f ∙ ap (λ b. cond (b && policies.free (r .policy) (w .policy) f) 1 (r .policy .times (w .policy) f)) (eq-eqb f f refl) ∙ ap (λ b. cond b 1 (r .policy .times (w .policy) f)) enterable)
-              (λ z. absurd (omega arith))))
+          (counted-holding w k f (fixesIn (w .records) f - 1) fp ne (r .policy .give-back (w .policy) f rf ch)
+          (λ g q. back g ∙ ap (λ b. cond (b && policies.free (r .policy) (w .policy) f) 1 (r .policy .times (w .policy) g)) (ne-eqb g f q))
+          (λ _. back f ∙ ap (λ b. cond (b && policies.free (r .policy) (w .policy) f) 1 (r .policy .times (w .policy) f)) (eq-eqb f f refl) ∙ ap (λ b. cond b 1 (r .policy .times (w .policy) f)) enterable)
+          (λ z. absurd (omega arith))))
       by-count false e =
           let pol : cond (eqb (fixesIn (w .records) f) 1) (r .policy .give-back (w .policy) f (referred (getD (w .keys) f 0)) (changed (getD (w .keys) f 0))) (w .policy) ≡ w .policy =
-            ap (λ b. cond b (r .policy .give-back (w .policy) f (referred (getD (w .keys) f 0)) (changed (getD (w .keys) f 0))) (w .policy)) e in
+          ap (λ b. cond b (r .policy .give-back (w .policy) f (referred (getD (w .keys) f 0)) (changed (getD (w .keys) f 0))) (w .policy)) e in
           let two : 1 < fixesIn (w .records) f = let z = eqb-false _ _ e in elim (cases-eq (fixesIn (w .records) f) 1) [ inl q ↦ absurd (z q) | inr q ↦ omega arith ] in
           whole r (freedIn r f w) (k .fits) (counted-body w k f (fixesIn (w .records) f - 1) fp ne)
           (subst (r .policy .good) (sym pol) (k .good .policy))
           (subst (Holding (r .policy) (w .config) (counts w k f (fixesIn (w .records) f - 1) fp ne)) (sym pol)
-            (counted-holding w k f (fixesIn (w .records) f - 1) fp ne (w .policy) (λ g q. refl) (λ z. absurd (omega arith)) (λ _. k .holding .fixed f fp pos)))
+          (counted-holding w k f (fixesIn (w .records) f - 1) fp ne (w .policy) (λ g q. refl) (λ z. absurd (omega arith)) (λ _. k .holding .fixed f fp pos)))
 
   -- a frame settled
   pub settled-own : (w : World T P S) → Consistent r w → (f : ℕ) → Pageable (w .config) f → length (w .storage) ≡ 2048 * w .config .frames → Consistent r (settledIn r f w)
@@ -176,7 +184,7 @@ module _ {T P S : Type 0} (r : Parts T P S) (law : LawfulParts r) where
           let n = k .table .named f fp ne in
           let l = laws .pages .page-long (w .storage) (2048 * f) (frame-fits (w .config) (k .fits) (w .storage) long f (fp .1)) in
           let b1 = body-keys r law (w .config) (k .fits) (w .keys) (set (w .keys) f (changeOff (getD (w .keys) f 0))) (w .records) (w .translator) (w .store) (body r w k)
-            (length-set (w .keys) f _) (access-set (w .keys) f _ (access-change-off (getD (w .keys) f 0))) in
+          (length-set (w .keys) f _) (access-set (w .keys) f _ (access-change-off (getD (w .keys) f 0))) in
           whole r (settling r true f (pageIn (w .records) f) w) (k .fits)
           (body-out r law (w .config) (k .fits) (set (w .keys) f (changeOff (getD (w .keys) f 0))) (w .records) (w .translator) (w .store) b1 f fp (frame (w .storage) f) (pageIn (w .records) f) (n .0) (n .1) l)
           (k .good .policy) (k .holding)
@@ -201,16 +209,20 @@ module _ {T P S : Type 0} (r : Parts T P S) (law : LawfulParts r) where
       let p = purge-ok w x e in
       let t = and-parts _ _ (p .1) in
       let segs : (g : ℕ) → g < segmentEntries (w .config) → word (w .storage) (segmentAt g) ≡ segmentWord (w .config) g =
-        λ g h. each-segment (w .config) (w .storage) 0 (segmentEntries (w .config)) (t .0) g (omega arith) (omega arith) in
+      λ g h. each-segment (w .config) (w .storage) 0 (segmentEntries (w .config)) (t .0) g (omega arith) (omega arith) in
       let ents : (q : ℕ) → q < 32 * segments (w .config) → half (w .storage) (entryAt q) / 2 ≡ entryShould (w .config) (w .storage) (w .records) q / 2 =
-        λ q h. eqb-true _ _ (each-entry (w .config) (w .storage) (w .records) 0 (32 * segments (w .config)) (t .1) q (omega arith) (omega arith)) in
+      λ q h. eqb-true _ _ (each-entry (w .config) (w .storage) (w .records) 0 (32 * segments (w .config)) (t .1) q (omega arith) (omega arith)) in
       record {
         good = record { translator = law .translator .purge-good (w .translator) (w .storage) (k .good .translator); policy = k .good .policy; store = k .good .store };
-        fits = k .fits; table = k .table; keyed = k .keyed; holding = k .holding; slots = k .slots;
+        fits = k .fits;
+        table = k .table;
+        keyed = k .keyed;
+        holding = k .holding;
+        slots = k .slots;
         paired = record {
           words = law .translator .purge-controls (w .translator) (w .storage) (k .good .translator) ∙ k .paired .words;
           each = λ q start v. agrees-frame (w .config) (k .fits) (w .records) (k .table) (w .storage) (p .0) segs ents q start
-            (subst (λ y. translators.Agrees (w .storage) y q start) (k .paired .words) (law .translator .purge-agrees (w .translator) (w .storage) q start (k .good .translator) v));
+              (subst (λ y. translators.Agrees (w .storage) y q start) (k .paired .words) (law .translator .purge-agrees (w .translator) (w .storage) q start (k .good .translator) v));
         };
       }
 
@@ -285,8 +297,16 @@ module _ {T P S : Type 0} (r : Parts T P S) (law : LawfulParts r) where
 
   pub steadies : (cs : List (List ℕ × Call)) (w : World T P S) → Consistent r w → Steady r cs w
   steadies [] w k = k
-  steadies (c ∷ cs) w k =
-      (k, told (c .1) (handed r (c .0) w),
-       steadies cs (worked r (c .1) (handed r (c .0) w) .1) (call-own (c .1) (handed r (c .0) w) (record {
-         good = k .good; fits = k .fits; table = k .table; keyed = k .keyed; holding = k .holding; paired = k .paired; slots = k .slots;
-       })))
+  steadies (c ∷ cs) w k = (
+    k,
+    told (c .1) (handed r (c .0) w),
+    steadies cs (worked r (c .1) (handed r (c .0) w) .1) (call-own (c .1) (handed r (c .0) w) (record {
+      good = k .good;
+      fits = k .fits;
+      table = k .table;
+      keyed = k .keyed;
+      holding = k .holding;
+      paired = k .paired;
+      slots = k .slots;
+    })),
+  )

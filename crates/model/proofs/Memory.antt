@@ -75,9 +75,10 @@ pub taken-changed : (ks new : List ℕ) → policies.KeysKept ks new → (g : �
 taken-changed ks new k g = elim (k .each g) [ inl e ↦ ap changed e | inr e ↦ ap changed e ∙ changed-off (getD ks g 0) ]
 
 pub changed-set : (ks : List ℕ) (f key : ℕ) → f < length ks → changed key ≡ changed (getD ks f 0) → (g : ℕ) → changed (getD (set ks f key) g 0) ≡ changed (getD ks g 0)
-changed-set ks f key h e g = elim (cases-eq g f)
-    [ inl q ↦ ap (λ x. changed (getD (set ks f key) x 0)) q ∙ ap changed (getD-set-same ks f key 0 h) ∙ e ∙ ap (λ x. changed (getD ks x 0)) (sym q)
-    | inr q ↦ ap changed (getD-set-other ks f g key 0 q) ]
+changed-set ks f key h e g = elim (cases-eq g f) [
+  | inl q ↦ ap (λ x. changed (getD (set ks f key) x 0)) q ∙ ap changed (getD-set-same ks f key 0 h) ∙ e ∙ ap (λ x. changed (getD ks x 0)) (sym q)
+  | inr q ↦ ap changed (getD-set-other ks f g key 0 q)
+]
 
 -- Two page numbers not below K are in one slot only if they are one.
 slots-apart : (k p q : ℕ) → k ≤ p → k ≤ q → (p ≡ q → ⊥) → p - k ≡ q - k → ⊥
@@ -92,7 +93,9 @@ module _ {S : Type 0} (r : stores.Rules S) (law : stores.Lawful r) (c : Config) 
   pub content-keys : (rs : List FrameRecord) (ks new : List ℕ) (st : S) (s bytes : List ℕ) → Content r c rs ks st s bytes
       → ((g : ℕ) → changed (getD new g 0) ≡ changed (getD ks g 0)) → Content r c rs new st s bytes
   content-keys rs ks new st s bytes k same = record {
-    long = k .long; inside = k .inside; outside = k .outside;
+    long = k .long;
+    inside = k .inside;
+    outside = k .outside;
     clean = λ f fp ne off. k .clean f fp ne (sym (same f) ∙ off);
   }
 
@@ -123,12 +126,15 @@ module _ {S : Type 0} (r : stores.Rules S) (law : stores.Lawful r) (c : Config) 
         ap (λ m. r .slot m (p - c .supervisor)) (put-out r st (q - c .supervisor) bytes (usable q key part) l)
         ∙ law .write-slot st (q - c .supervisor) bytes (p - c .supervisor) good (usable q key part) (usable p y e) l
         ∙ ap (λ b. cond b bytes (r .slot st (p - c .supervisor)))
-          (ne-eqb _ _ (slots-apart (c .supervisor) p q (fit .keys p y e .0) (fit .keys q key part .0) ne))
+        (ne-eqb _ _ (slots-apart (c .supervisor) p q (fit .keys p y e .0) (fit .keys q key part .0) ne))
 
 -- Other records with the same pages.
 pub entries-pages : (c : Config) (rs new : List FrameRecord) (s : List ℕ) → Entries c rs s → ((g : ℕ) → pageIn new g ≡ pageIn rs g) → Entries c new s
 entries-pages c rs new s k same = record {
-  long = k .long; segs = k .segs; low = k .low; rest = k .rest;
+  long = k .long;
+  segs = k .segs;
+  low = k .low;
+  rest = k .rest;
   inside = λ f fp ne. ap (λ p. half s (entryAt p) / 2) (same f) ∙ k .inside f fp (λ z. ne (same f ∙ z));
   outside = λ p key e absent. k .outside p key e (λ g gp is. absent g gp (same g ∙ is));
 }
@@ -166,9 +172,10 @@ module _ {S : Type 0} (r : stores.Rules S) (law : stores.Lawful r) (c : Config) 
   gone-page g gn e = gn (ap (pageIn (set rs f gone)) e ∙ page-here rs f gone fl)
 
   gone-absent : (p : ℕ) → (p ≡ q → ⊥) → Absent c (set rs f gone) p → Absent c rs p
-  gone-absent p np absent g gp is = elim (cases-eq g f)
-      [ inl e ↦ np (sym is ∙ ap (pageIn rs) e)
-      | inr e ↦ absent g gp (page-there rs f gone g e ∙ is) ]
+  gone-absent p np absent g gp is = elim (cases-eq g f) [
+    | inl e ↦ np (sym is ∙ ap (pageIn rs) e)
+    | inr e ↦ absent g gp (page-there rs f gone g e ∙ is)
+  ]
 
   module _ (bit : ℕ) (b1 : bit ≤ 1) (ks : List ℕ) (keyed : Keyed c rs ks) where
     abbrev out : ℕ
@@ -186,21 +193,22 @@ module _ {S : Type 0} (r : stores.Rules S) (law : stores.Lawful r) (c : Config) 
       segs = λ g h. e-segment c fit s (ents .long) q out q-listed g h ∙ ents .segs g h;
       low = λ p h. ap (λ n. n / 2) (e-other c fit s (ents .long) q out q-listed p (λ e. let a = q-in .0 in omega arith)) ∙ ents .low p h;
       inside = λ g gp gn.
-        let gf = gone-page g gn in
-        let same = page-there rs f gone g gf in
-        let old : pageIn rs g ≡ noPage → ⊥ = λ z. gn (same ∙ z) in
-        ap (λ p. half (putHalf s (entryAt q) out) (entryAt p) / 2) same
-        ∙ ap (λ n. n / 2) (e-other c fit s (ents .long) q out q-listed (pageIn rs g) (other-page g gp old gf)) ∙ ents .inside g gp old;
-      outside = λ p key e absent. elim (cases-eq p q)
-        [ inl z ↦
+          let gf = gone-page g gn in
+          let same = page-there rs f gone g gf in
+          let old : pageIn rs g ≡ noPage → ⊥ = λ z. gn (same ∙ z) in
+          ap (λ p. half (putHalf s (entryAt q) out) (entryAt p) / 2) same
+          ∙ ap (λ n. n / 2) (e-other c fit s (ents .long) q out q-listed (pageIn rs g) (other-page g gp old gf)) ∙ ents .inside g gp old;
+      outside = λ p key e absent. elim (cases-eq p q) [
+        | inl z ↦
             let both : Some key ≡ Some (key-of .0) = sym e ∙ ap (keyOf (c .partitions)) z ∙ key-of .1 in
             let ky : key ≡ key-of .0 = cc in
             let a = access-is in
             ap (λ x. half (putHalf s (entryAt q) out) (entryAt x) / 2) z ∙ ap (λ n. n / 2) (e-same c fit s (ents .long) q out q-listed small)
             ∙ (let v : out / 2 ≡ 2 + 8 * key = omega arith in v)
-        | inr z ↦ ap (λ n. n / 2) (e-other c fit s (ents .long) q out q-listed p z) ∙ ents .outside p key e (gone-absent p z absent) ];
+        | inr z ↦ ap (λ n. n / 2) (e-other c fit s (ents .long) q out q-listed p z) ∙ ents .outside p key e (gone-absent p z absent)
+      ];
       rest = λ p pt lo e.
-        ap (λ n. n / 2) (e-other c fit s (ents .long) q out q-listed p (λ z. never (sym e ∙ ap (keyOf (c .partitions)) z ∙ key-of .1))) ∙ ents .rest p pt lo e;
+          ap (λ n. n / 2) (e-other c fit s (ents .long) q out q-listed p (λ z. never (sym e ∙ ap (keyOf (c .partitions)) z ∙ key-of .1))) ∙ ents .rest p pt lo e;
     }
       where
         never : None ≡ Some (key-of .0) → ⊥
@@ -215,39 +223,42 @@ module _ {S : Type 0} (r : stores.Rules S) (law : stores.Lawful r) (c : Config) 
         → Content r c (set rs f gone) ks new (putHalf s (entryAt q) out) bytes
     vacated-content st new bytes k others here =
         let other : (p y : ℕ) → keyOf (c .partitions) p ≡ Some y → (p ≡ q → ⊥) → backing r c (putHalf s (entryAt q) out) new p ≡ backing r c s st p = λ p y e np.
-          ap (λ n. cond (eqb (n % 2) 1) zeros (r .slot new (p - c .supervisor))) (e-other c fit s (ents .long) q out q-listed p np)
-          ∙ ap (λ x. cond (eqb (bit15 s p) 1) zeros x) (others p y e np) in
+        ap (λ n. cond (eqb (n % 2) 1) zeros (r .slot new (p - c .supervisor))) (e-other c fit s (ents .long) q out q-listed p np)
+        ∙ ap (λ x. cond (eqb (bit15 s p) 1) zeros x) (others p y e np) in
         record {
           long = k .long;
           inside = λ g gp gn.
-            let gf = gone-page g gn in
-            let same = page-there rs f gone g gf in
-            e-frame c fit s (ents .long) q out q-listed g gp ∙ k .inside g gp (λ z. gn (same ∙ z)) ∙ ap (λ p. page bytes (2048 * p)) (sym same);
+              let gf = gone-page g gn in
+              let same = page-there rs f gone g gf in
+              e-frame c fit s (ents .long) q out q-listed g gp ∙ k .inside g gp (λ z. gn (same ∙ z)) ∙ ap (λ p. page bytes (2048 * p)) (sym same);
           clean = λ g gp gn off.
-            let gf = gone-page g gn in
-            let same = page-there rs f gone g gf in
-            let old : pageIn rs g ≡ noPage → ⊥ = λ z. gn (same ∙ z) in
-            let n = tab .named g gp old in
-            subst (λ p. backing r c (putHalf s (entryAt q) out) new p ≡ page bytes (2048 * p)) (sym same)
-            (other (pageIn rs g) (n .0) (n .1) (other-page g gp old gf) ∙ k .clean g gp old off);
-          outside = λ p y e absent. elim (cases-eq p q)
-            [ inl z ↦ subst (λ x. backing r c (putHalf s (entryAt q) out) new x ≡ page bytes (2048 * x)) (sym z) here
-            | inr z ↦ other p y e z ∙ k .outside p y e (gone-absent p z absent) ];
+              let gf = gone-page g gn in
+              let same = page-there rs f gone g gf in
+              let old : pageIn rs g ≡ noPage → ⊥ = λ z. gn (same ∙ z) in
+              let n = tab .named g gp old in
+              subst (λ p. backing r c (putHalf s (entryAt q) out) new p ≡ page bytes (2048 * p)) (sym same)
+              (other (pageIn rs g) (n .0) (n .1) (other-page g gp old gf) ∙ k .clean g gp old off);
+          outside = λ p y e absent. elim (cases-eq p q) [
+            | inl z ↦ subst (λ x. backing r c (putHalf s (entryAt q) out) new x ≡ page bytes (2048 * x)) (sym z) here
+            | inr z ↦ other p y e z ∙ k .outside p y e (gone-absent p z absent)
+          ];
         }
 
   pub vacated-counts : fixesIn rs f ≡ 0 → (fixes : List ℕ) → Counts c rs fixes → Counts c (set rs f gone) fixes
   vacated-counts unfixed fixes k = record {
     long = k .long;
     inside = λ g gp gn.
-      let gf = gone-page g gn in
-      let same = page-there rs f gone g gf in
-      ap (λ p. getD fixes p 0) same ∙ k .inside g gp (λ z. gn (same ∙ z)) ∙ sym (fixes-there rs f gone g gf);
-    outside = λ p absent. elim (cases-eq p q)
-      [ inl z ↦ ap (λ x. getD fixes x 0) z ∙ k .inside f fp ne ∙ unfixed
-      | inr z ↦ k .outside p (gone-absent p z absent) ];
-    same = k .same ∙ sym (counted-same _ _ (c .supervisor) (c .frames - c .supervisor) (λ g a b. ap (λ n. ltb 0 n) (elim (cases-eq g f)
-      [ inl e ↦ ap (fixesIn (set rs f gone)) e ∙ fixes-here rs f gone fl ∙ ap (fixesIn rs) (sym e)
-      | inr e ↦ fixes-there rs f gone g e ])));
+        let gf = gone-page g gn in
+        let same = page-there rs f gone g gf in
+        ap (λ p. getD fixes p 0) same ∙ k .inside g gp (λ z. gn (same ∙ z)) ∙ sym (fixes-there rs f gone g gf);
+    outside = λ p absent. elim (cases-eq p q) [
+      | inl z ↦ ap (λ x. getD fixes x 0) z ∙ k .inside f fp ne ∙ unfixed
+      | inr z ↦ k .outside p (gone-absent p z absent)
+    ];
+    same = k .same ∙ sym (counted-same _ _ (c .supervisor) (c .frames - c .supervisor) (λ g a b. ap (λ n. ltb 0 n) (elim (cases-eq g f) [
+      | inl e ↦ ap (fixesIn (set rs f gone)) e ∙ fixes-here rs f gone fl ∙ ap (fixesIn rs) (sym e)
+      | inr e ↦ fixes-there rs f gone g e
+    ])));
   }
 
   -- settled: bit 15 of the page's entry goes off, and the page is put out
@@ -259,10 +270,11 @@ module _ {S : Type 0} (r : stores.Rules S) (law : stores.Lawful r) (c : Config) 
 
   pub settled-entries : Entries c rs (putHalf s (entryAt q) off15)
   settled-entries =
-      let every : (p : ℕ) → half (putHalf s (entryAt q) off15) (entryAt p) / 2 ≡ half s (entryAt p) / 2 = λ p. elim (cases-eq p q)
-        [ inl z ↦ ap (λ x. half (putHalf s (entryAt q) off15) (entryAt x) / 2) z ∙ ap (λ n. n / 2) (e-same c fit s (ents .long) q off15 q-listed off-small)
+      let every : (p : ℕ) → half (putHalf s (entryAt q) off15) (entryAt p) / 2 ≡ half s (entryAt p) / 2 = λ p. elim (cases-eq p q) [
+        | inl z ↦ ap (λ x. half (putHalf s (entryAt q) off15) (entryAt x) / 2) z ∙ ap (λ n. n / 2) (e-same c fit s (ents .long) q off15 q-listed off-small)
             ∙ (let v : off15 / 2 ≡ half s (entryAt q) / 2 = omega arith in v) ∙ ap (λ x. half s (entryAt x) / 2) (sym z)
-        | inr z ↦ ap (λ n. n / 2) (e-other c fit s (ents .long) q off15 q-listed p z) ] in
+        | inr z ↦ ap (λ n. n / 2) (e-other c fit s (ents .long) q off15 q-listed p z)
+      ] in
       record {
         long = e-long c fit s (ents .long) q off15 q-listed;
         segs = λ g h. e-segment c fit s (ents .long) q off15 q-listed g h ∙ ents .segs g h;
@@ -294,9 +306,10 @@ module _ {S : Type 0} (r : stores.Rules S) (law : stores.Lawful r) (c : Config) 
     settled-content = record {
       long = k .long;
       inside = λ g gp gn. e-frame c fit s (ents .long) q off15 q-listed g gp ∙ k .inside g gp gn;
-      clean = λ g gp gn off. elim (cases-eq g f)
-        [ inl z ↦ subst (λ x. backing r c (putHalf s (entryAt q) off15) settledStore (pageIn rs x) ≡ page bytes (2048 * pageIn rs x)) (sym z) settled-here
+      clean = λ g gp gn off. elim (cases-eq g f) [
+        | inl z ↦ subst (λ x. backing r c (putHalf s (entryAt q) off15) settledStore (pageIn rs x) ≡ page bytes (2048 * pageIn rs x)) (sym z) settled-here
         | inr z ↦ let n = tab .named g gp gn in
-            settled-other (pageIn rs g) (n .0) (n .1) (other-page g gp gn z) ∙ k .clean g gp gn (ap changed (sym (getD-set-other ks f g _ 0 z)) ∙ off) ];
+            settled-other (pageIn rs g) (n .0) (n .1) (other-page g gp gn z) ∙ k .clean g gp gn (ap changed (sym (getD-set-other ks f g _ 0 z)) ∙ off)
+      ];
       outside = λ p y e absent. settled-other p y e (λ z. absent f fp (sym z)) ∙ k .outside p y e absent;
     }

@@ -54,7 +54,8 @@ module _ {S : Type 0} (r : stores.Rules S) (c : Config) (fit : Fits c) (rs : Lis
   absent-then : (q : ℕ) → Absent c (set rs f come) q → (q ≡ p → ⊥) × ((q ≡ noPage → ⊥) → Absent c rs q)
   absent-then q a = (
     (λ z. a f fp (here ∙ sym z)),
-    λ nq g gp is. elim (cases-eq g f) [ inl e ↦ nq (sym is ∙ ap (pageIn rs) e ∙ none) | inr e ↦ a g gp (page-there rs f come g e ∙ is) ])
+    λ nq g gp is. elim (cases-eq g f) [ inl e ↦ nq (sym is ∙ ap (pageIn rs) e ∙ none) | inr e ↦ a g gp (page-there rs f come g e ∙ is) ],
+  )
 
   -- the page of another frame
   other : (g : ℕ) → (g ≡ f → ⊥) → pageIn (set rs f come) g ≡ pageIn rs g
@@ -68,20 +69,21 @@ module _ {S : Type 0} (r : stores.Rules S) (c : Config) (fit : Fits c) (rs : Lis
     long = after-long c fit s (ents .long) f p fp (p-in .1) b bl;
     segs = λ g h. after-segment c fit s (ents .long) f p fp (p-in .1) b bl g h ∙ ents .segs g h;
     low = λ q h. ap (λ n. n / 2) (after-other c fit s (ents .long) f p fp (p-in .1) b bl q (let a = fit .more in omega arith) (λ e. let a = p-in .0 in omega arith)) ∙ ents .low q h;
-    inside = λ g gp gn. elim (cases-eq g f)
-      [ inl e ↦
+    inside = λ g gp gn. elim (cases-eq g f) [
+      | inl e ↦
           ap (λ x. half s2 (entryAt (pageIn (set rs f come) x)) / 2) e ∙ ap (λ x. half s2 (entryAt x) / 2) here
           ∙ ap (λ n. n / 2) (after-entry c fit s (ents .long) f p fp (p-in .1) b bl) ∙ (let v : (8 * f + bit15 s p) / 2 ≡ 4 * g = omega arith in v)
       | inr e ↦
           let old : pageIn rs g ≡ noPage → ⊥ = λ z. gn (other g e ∙ z) in
           ap (λ x. half s2 (entryAt x) / 2) (other g e)
-          ∙ ap (λ n. n / 2) (after-other c fit s (ents .long) f p fp (p-in .1) b bl (pageIn rs g) (listed-page g gp old) (absent g gp)) ∙ ents .inside g gp old ];
+          ∙ ap (λ n. n / 2) (after-other c fit s (ents .long) f p fp (p-in .1) b bl (pageIn rs g) (listed-page g gp old) (absent g gp)) ∙ ents .inside g gp old
+    ];
     outside = λ q y e a.
-      let t = absent-then q a in
-      let qv = fit .keys q y e .1 in
-      ap (λ n. n / 2) (after-other c fit s (ents .long) f p fp (p-in .1) b bl q (listed c fit q qv) (t .0)) ∙ ents .outside q y e (t .1 (real-page c fit q y e));
+        let t = absent-then q a in
+        let qv = fit .keys q y e .1 in
+        ap (λ n. n / 2) (after-other c fit s (ents .long) f p fp (p-in .1) b bl q (listed c fit q qv) (t .0)) ∙ ents .outside q y e (t .1 (real-page c fit q y e));
     rest = λ q qt lo e.
-      ap (λ n. n / 2) (after-other c fit s (ents .long) f p fp (p-in .1) b bl q qt (λ z. never (sym e ∙ ap (keyOf (c .partitions)) z ∙ part))) ∙ ents .rest q qt lo e;
+        ap (λ n. n / 2) (after-other c fit s (ents .long) f p fp (p-in .1) b bl q qt (λ z. never (sym e ∙ ap (keyOf (c .partitions)) z ∙ part))) ∙ ents .rest q qt lo e;
   }
     where
       never : None ≡ Some key → ⊥
@@ -98,43 +100,48 @@ module _ {S : Type 0} (r : stores.Rules S) (c : Config) (fit : Fits c) (rs : Lis
       → Content r c (set rs f come) (set ks f (16 * key)) st s2 bytes
   connected-content ks k256 st bytes k is =
       let behind : (q : ℕ) → half s2 (entryAt q) % 2 ≡ half s (entryAt q) % 2 → backing r c s2 st q ≡ backing r c s st q = λ q e.
-        ap (λ n. cond (eqb n 1) zeros (r .slot st (q - c .supervisor))) e in
+      ap (λ n. cond (eqb n 1) zeros (r .slot st (q - c .supervisor))) e in
       let p-behind : backing r c s2 st p ≡ backing r c s st p =
-        behind p (ap (λ n. n % 2) (after-entry c fit s (ents .long) f p fp (p-in .1) b bl) ∙ (let v : (8 * f + bit15 s p) % 2 ≡ half s (entryAt p) % 2 = omega arith in v)) in
+      behind p (ap (λ n. n % 2) (after-entry c fit s (ents .long) f p fp (p-in .1) b bl) ∙ (let v : (8 * f + bit15 s p) % 2 ≡ half s (entryAt p) % 2 = omega arith in v)) in
       let q-behind : (q : ℕ) → q < 32 * segments c → (q ≡ p → ⊥) → backing r c s2 st q ≡ backing r c s st q = λ q qt np.
-        behind q (ap (λ n. n % 2) (after-other c fit s (ents .long) f p fp (p-in .1) b bl q qt np)) in
+      behind q (ap (λ n. n % 2) (after-other c fit s (ents .long) f p fp (p-in .1) b bl q qt np)) in
       let right : backing r c s st p ≡ page bytes (2048 * p) = k .outside p key part absent in
       record {
         long = k .long;
-        inside = λ g gp gn. elim (cases-eq g f)
-          [ inl e ↦ ap (λ x. page s2 (2048 * x)) e ∙ frame-here ∙ is ∙ right ∙ ap (λ x. page bytes (2048 * x)) (sym here ∙ ap (pageIn (set rs f come)) (sym e))
-          | inr e ↦ frame-there g gp e ∙ k .inside g gp (λ z. gn (other g e ∙ z)) ∙ ap (λ x. page bytes (2048 * x)) (sym (other g e)) ];
-        clean = λ g gp gn off. elim (cases-eq g f)
-          [ inl e ↦ subst (λ x. backing r c s2 st x ≡ page bytes (2048 * x)) (sym here ∙ ap (pageIn (set rs f come)) (sym e)) (p-behind ∙ right)
+        inside = λ g gp gn. elim (cases-eq g f) [
+          | inl e ↦ ap (λ x. page s2 (2048 * x)) e ∙ frame-here ∙ is ∙ right ∙ ap (λ x. page bytes (2048 * x)) (sym here ∙ ap (pageIn (set rs f come)) (sym e))
+          | inr e ↦ frame-there g gp e ∙ k .inside g gp (λ z. gn (other g e ∙ z)) ∙ ap (λ x. page bytes (2048 * x)) (sym (other g e))
+        ];
+        clean = λ g gp gn off. elim (cases-eq g f) [
+          | inl e ↦ subst (λ x. backing r c s2 st x ≡ page bytes (2048 * x)) (sym here ∙ ap (pageIn (set rs f come)) (sym e)) (p-behind ∙ right)
           | inr e ↦
               let old : pageIn rs g ≡ noPage → ⊥ = λ z. gn (other g e ∙ z) in
               subst (λ x. backing r c s2 st x ≡ page bytes (2048 * x)) (sym (other g e))
-              (q-behind (pageIn rs g) (listed-page g gp old) (absent g gp) ∙ k .clean g gp old (ap changed (sym (getD-set-other ks f g (16 * key) 0 e)) ∙ off)) ];
+              (q-behind (pageIn rs g) (listed-page g gp old) (absent g gp) ∙ k .clean g gp old (ap changed (sym (getD-set-other ks f g (16 * key) 0 e)) ∙ off))
+        ];
         outside = λ q y e a.
-          let t = absent-then q a in
-          let qv = fit .keys q y e .1 in
-          q-behind q (listed c fit q qv) (t .0) ∙ k .outside q y e (t .1 (real-page c fit q y e));
+            let t = absent-then q a in
+            let qv = fit .keys q y e .1 in
+            q-behind q (listed c fit q qv) (t .0) ∙ k .outside q y e (t .1 (real-page c fit q y e));
       }
 
   pub connected-counts : fixesIn rs f ≡ 0 → (fixes : List ℕ) → Counts c rs fixes → Counts c (set rs f come) fixes
   connected-counts unfixed fixes k = record {
     long = k .long;
-    inside = λ g gp gn. elim (cases-eq g f)
-      [ inl e ↦
+    inside = λ g gp gn. elim (cases-eq g f) [
+      | inl e ↦
           ap (λ x. getD fixes x 0) (ap (pageIn (set rs f come)) e ∙ here) ∙ k .outside p absent ∙ sym unfixed
           ∙ sym (ap (fixesIn (set rs f come)) e ∙ fixes-here rs f come fl)
-      | inr e ↦ ap (λ x. getD fixes x 0) (other g e) ∙ k .inside g gp (λ z. gn (other g e ∙ z)) ∙ sym (fixes-there rs f come g e) ];
-    outside = λ q a. elim (cases-eq q noPage)
-      [ inl z ↦ past q z
-      | inr z ↦ k .outside q (absent-then q a .1 z) ];
-    same = k .same ∙ sym (counted-same _ _ (c .supervisor) (c .frames - c .supervisor) (λ g x y. ap (λ n. ltb 0 n) (elim (cases-eq g f)
-      [ inl e ↦ ap (fixesIn (set rs f come)) e ∙ fixes-here rs f come fl ∙ ap (fixesIn rs) (sym e)
-      | inr e ↦ fixes-there rs f come g e ])));
+      | inr e ↦ ap (λ x. getD fixes x 0) (other g e) ∙ k .inside g gp (λ z. gn (other g e ∙ z)) ∙ sym (fixes-there rs f come g e)
+    ];
+    outside = λ q a. elim (cases-eq q noPage) [
+      | inl z ↦ past q z
+      | inr z ↦ k .outside q (absent-then q a .1 z)
+    ];
+    same = k .same ∙ sym (counted-same _ _ (c .supervisor) (c .frames - c .supervisor) (λ g x y. ap (λ n. ltb 0 n) (elim (cases-eq g f) [
+      | inl e ↦ ap (fixesIn (set rs f come)) e ∙ fixes-here rs f come fl ∙ ap (fixesIn rs) (sym e)
+      | inr e ↦ fixes-there rs f come g e
+    ])));
   }
     where
       -- no page has the number for none
@@ -175,26 +182,28 @@ module _ {S : Type 0} (r : stores.Rules S) (c : Config) (fit : Fits c) (rs : Lis
       let p = pageIn rs f in
       let n = tab .named f fp ne in
       let behind : (q : ℕ) → q < 32 * segments c → backing r c s1 st q ≡ backing r c s st q = λ q qt.
-        ap (λ h. cond (eqb (h % 2) 1) zeros (r .slot st (q - c .supervisor))) (b-entry c fit s (ents .long) f i v fp il q qt) in
+      ap (λ h. cond (eqb (h % 2) 1) zeros (r .slot st (q - c .supervisor))) (b-entry c fit s (ents .long) f i v fp il q qt) in
       let other-page : (g : ℕ) → Pageable c g → (pageIn rs g ≡ noPage → ⊥) → (g ≡ f → ⊥) → pageIn rs g ≡ p → ⊥ = λ g gp gn gf e. gf (tab .apart g f gp fp e gn) in
       let valid : (g : ℕ) → Pageable c g → (pageIn rs g ≡ noPage → ⊥) → pageIn rs g < c .pages = λ g gp gn. let m = tab .named g gp gn in fit .keys _ (m .0) (m .1) .1 in
       record {
         long = length-set bytes (2048 * p + i) v ∙ k .long;
-        inside = λ g gp gn. elim (cases-eq g f)
-          [ inl e ↦
+        inside = λ g gp gn. elim (cases-eq g f) [
+          | inl e ↦
               ap (λ x. page s1 (2048 * x)) e ∙ b-same c fit s (ents .long) f i v fp il ∙ ap (λ l. set l i v) (k .inside f fp ne)
               ∙ sym (flat-same bytes p) ∙ ap (λ x. page (set bytes (2048 * p + i) v) (2048 * pageIn rs x)) (sym e)
           | inr e ↦
               b-other c fit s (ents .long) f i v fp il g (gp .1) e ∙ k .inside g gp gn
-              ∙ sym (flat-other bytes p (pageIn rs g) (k .long) (valid g gp gn) (other-page g gp gn e)) ];
-        clean = λ g gp gn off. elim (cases-eq g f)
-          [ inl e ↦ absurd (both-ways (changed (getD (set ks f mark) f 0)) (subst (λ x. changed (getD (set ks f mark) x 0) ≡ false) e off) (ap changed (getD-set-same ks f mark 0 k256) ∙ on))
+              ∙ sym (flat-other bytes p (pageIn rs g) (k .long) (valid g gp gn) (other-page g gp gn e))
+        ];
+        clean = λ g gp gn off. elim (cases-eq g f) [
+          | inl e ↦ absurd (both-ways (changed (getD (set ks f mark) f 0)) (subst (λ x. changed (getD (set ks f mark) x 0) ≡ false) e off) (ap changed (getD-set-same ks f mark 0 k256) ∙ on))
           | inr e ↦
               behind (pageIn rs g) (named-page g gp gn) ∙ k .clean g gp gn (ap changed (sym (getD-set-other ks f g mark 0 e)) ∙ off)
-              ∙ sym (flat-other bytes p (pageIn rs g) (k .long) (valid g gp gn) (other-page g gp gn e)) ];
+              ∙ sym (flat-other bytes p (pageIn rs g) (k .long) (valid g gp gn) (other-page g gp gn e))
+        ];
         outside = λ q y e a.
-          behind q (listed c fit q (fit .keys q y e .1)) ∙ k .outside q y e a
-          ∙ sym (flat-other bytes p q (k .long) (fit .keys q y e .1) (λ z. a f fp (sym z)));
+            behind q (listed c fit q (fit .keys q y e .1)) ∙ k .outside q y e a
+            ∙ sym (flat-other bytes p q (k .long) (fit .keys q y e .1) (λ z. a f fp (sym z)));
       }
 
 -- The count of frame f's page set to n, in the record and in the flat machine.
@@ -218,29 +227,32 @@ module _ (c : Config) (fit : Fits c) (rs : List FrameRecord) (tab : Table c rs) 
   pub counted-to : fixedPages (set fixes (pageIn rs f) n) 0 (c .pages) ≡ fixedIn with-count (c .supervisor) (c .frames - c .supervisor) → Counts c with-count (set fixes (pageIn rs f) n)
   counted-to same = record {
     long = length-set fixes (pageIn rs f) n ∙ k .long;
-    inside = λ g gp gn. elim (cases-eq g f)
-      [ inl e ↦
+    inside = λ g gp gn. elim (cases-eq g f) [
+      | inl e ↦
           ap (λ x. getD (set fixes (pageIn rs f) n) x 0) (pages-same g ∙ ap (pageIn rs) e) ∙ getD-set-same fixes (pageIn rs f) n 0 p-fits
           ∙ sym (ap (fixesIn with-count) e ∙ fixes-here rs f _ row)
       | inr e ↦
           let old : pageIn rs g ≡ noPage → ⊥ = λ z. gn (pages-same g ∙ z) in
           ap (λ x. getD (set fixes (pageIn rs f) n) x 0) (pages-same g)
-          ∙ getD-set-other fixes (pageIn rs f) (pageIn rs g) n 0 (λ z. e (tab .apart g f gp fp z old)) ∙ k .inside g gp old ∙ sym (fixes-there rs f _ g e) ];
+          ∙ getD-set-other fixes (pageIn rs f) (pageIn rs g) n 0 (λ z. e (tab .apart g f gp fp z old)) ∙ k .inside g gp old ∙ sym (fixes-there rs f _ g e)
+    ];
     outside = λ p a.
-      getD-set-other fixes (pageIn rs f) p n 0 (λ z. a f fp (pages-same f ∙ sym z)) ∙ k .outside p (λ g gp is. a g gp (pages-same g ∙ is));
+        getD-set-other fixes (pageIn rs f) p n 0 (λ z. a f fp (pages-same f ∙ sym z)) ∙ k .outside p (λ g gp is. a g gp (pages-same g ∙ is));
     same = same;
   }
 
   -- positive as before: both totals stay
   pub total-stays : ltb 0 n ≡ ltb 0 (fixesIn rs f) → fixedPages (set fixes (pageIn rs f) n) 0 (c .pages) ≡ fixedIn with-count (c .supervisor) (c .frames - c .supervisor)
   total-stays e =
-      counted-same (λ q. ltb 0 (getD fixes q 0)) (λ q. ltb 0 (getD (set fixes (pageIn rs f) n) q 0)) 0 (c .pages) (λ q a b. elim (cases-eq q (pageIn rs f))
-        [ inl z ↦ ap (λ x. ltb 0 (getD (set fixes (pageIn rs f) n) x 0)) z ∙ ap (λ x. ltb 0 x) (getD-set-same fixes (pageIn rs f) n 0 p-fits) ∙ e ∙ ap (λ x. ltb 0 x) (sym (k .inside f fp ne)) ∙ ap (λ x. ltb 0 (getD fixes x 0)) (sym z)
-        | inr z ↦ ap (λ x. ltb 0 x) (getD-set-other fixes (pageIn rs f) q n 0 z) ])
+      counted-same (λ q. ltb 0 (getD fixes q 0)) (λ q. ltb 0 (getD (set fixes (pageIn rs f) n) q 0)) 0 (c .pages) (λ q a b. elim (cases-eq q (pageIn rs f)) [
+        | inl z ↦ ap (λ x. ltb 0 (getD (set fixes (pageIn rs f) n) x 0)) z ∙ ap (λ x. ltb 0 x) (getD-set-same fixes (pageIn rs f) n 0 p-fits) ∙ e ∙ ap (λ x. ltb 0 x) (sym (k .inside f fp ne)) ∙ ap (λ x. ltb 0 (getD fixes x 0)) (sym z)
+        | inr z ↦ ap (λ x. ltb 0 x) (getD-set-other fixes (pageIn rs f) q n 0 z)
+      ])
       ∙ k .same
-      ∙ sym (counted-same (λ g. ltb 0 (fixesIn rs g)) (λ g. ltb 0 (fixesIn with-count g)) (c .supervisor) (c .frames - c .supervisor) (λ g a b. elim (cases-eq g f)
-        [ inl z ↦ ap (λ x. ltb 0 (fixesIn with-count x)) z ∙ ap (λ x. ltb 0 x) (fixes-here rs f _ row) ∙ e ∙ ap (λ x. ltb 0 (fixesIn rs x)) (sym z)
-        | inr z ↦ ap (λ x. ltb 0 x) (fixes-there rs f _ g z) ]))
+      ∙ sym (counted-same (λ g. ltb 0 (fixesIn rs g)) (λ g. ltb 0 (fixesIn with-count g)) (c .supervisor) (c .frames - c .supervisor) (λ g a b. elim (cases-eq g f) [
+        | inl z ↦ ap (λ x. ltb 0 (fixesIn with-count x)) z ∙ ap (λ x. ltb 0 x) (fixes-here rs f _ row) ∙ e ∙ ap (λ x. ltb 0 (fixesIn rs x)) (sym z)
+        | inr z ↦ ap (λ x. ltb 0 x) (fixes-there rs f _ g z)
+      ]))
 
   f-in : (c .supervisor ≤ f) × (f < c .supervisor + (c .frames - c .supervisor))
   f-in = (fp .0, let a = fp .1 in let b = fit .some in omega arith)
@@ -249,19 +261,19 @@ module _ (c : Config) (fit : Fits c) (rs : List FrameRecord) (tab : Table c rs) 
   pub total-rises : ltb 0 n ≡ true → ltb 0 (fixesIn rs f) ≡ false → fixedPages (set fixes (pageIn rs f) n) 0 (c .pages) ≡ fixedIn with-count (c .supervisor) (c .frames - c .supervisor)
   total-rises up was =
       let pages = counted-up (λ q. ltb 0 (getD fixes q 0)) (λ q. ltb 0 (getD (set fixes (pageIn rs f) n) q 0)) 0 (c .pages) (pageIn rs f) (omega arith) p-most
-        (ap (λ x. ltb 0 x) (k .inside f fp ne) ∙ was) (ap (λ x. ltb 0 x) (getD-set-same fixes (pageIn rs f) n 0 p-fits) ∙ up)
-        (λ q z. ap (λ x. ltb 0 x) (getD-set-other fixes (pageIn rs f) q n 0 z)) in
+      (ap (λ x. ltb 0 x) (k .inside f fp ne) ∙ was) (ap (λ x. ltb 0 x) (getD-set-same fixes (pageIn rs f) n 0 p-fits) ∙ up)
+      (λ q z. ap (λ x. ltb 0 x) (getD-set-other fixes (pageIn rs f) q n 0 z)) in
       let frames = counted-up (λ g. ltb 0 (fixesIn rs g)) (λ g. ltb 0 (fixesIn with-count g)) (c .supervisor) (c .frames - c .supervisor) f (f-in .0) (f-in .1)
-        was (ap (λ x. ltb 0 x) (fixes-here rs f _ row) ∙ up) (λ g z. ap (λ x. ltb 0 x) (fixes-there rs f _ g z)) in
+      was (ap (λ x. ltb 0 x) (fixes-here rs f _ row) ∙ up) (λ g z. ap (λ x. ltb 0 x) (fixes-there rs f _ g z)) in
       pages ∙ ap (λ x. x + 1) (k .same) ∙ sym frames
 
   -- down to 0: both totals fall by one
   pub total-falls : ltb 0 n ≡ false → ltb 0 (fixesIn rs f) ≡ true → fixedPages (set fixes (pageIn rs f) n) 0 (c .pages) ≡ fixedIn with-count (c .supervisor) (c .frames - c .supervisor)
   total-falls down was =
       let pages = counted-up (λ q. ltb 0 (getD (set fixes (pageIn rs f) n) q 0)) (λ q. ltb 0 (getD fixes q 0)) 0 (c .pages) (pageIn rs f) (omega arith) p-most
-        (ap (λ x. ltb 0 x) (getD-set-same fixes (pageIn rs f) n 0 p-fits) ∙ down) (ap (λ x. ltb 0 x) (k .inside f fp ne) ∙ was)
-        (λ q z. ap (λ x. ltb 0 x) (sym (getD-set-other fixes (pageIn rs f) q n 0 z))) in
+      (ap (λ x. ltb 0 x) (getD-set-same fixes (pageIn rs f) n 0 p-fits) ∙ down) (ap (λ x. ltb 0 x) (k .inside f fp ne) ∙ was)
+      (λ q z. ap (λ x. ltb 0 x) (sym (getD-set-other fixes (pageIn rs f) q n 0 z))) in
       let frames = counted-up (λ g. ltb 0 (fixesIn with-count g)) (λ g. ltb 0 (fixesIn rs g)) (c .supervisor) (c .frames - c .supervisor) f (f-in .0) (f-in .1)
-        (ap (λ x. ltb 0 x) (fixes-here rs f _ row) ∙ down) was (λ g z. ap (λ x. ltb 0 x) (sym (fixes-there rs f _ g z))) in
+      (ap (λ x. ltb 0 x) (fixes-here rs f _ row) ∙ down) was (λ g z. ap (λ x. ltb 0 x) (sym (fixes-there rs f _ g z))) in
       let s = k .same in
       omega (arith, pages, frames, s)

@@ -73,28 +73,33 @@ module _ (c : Config) (fit : Fits c) (rs : List FrameRecord) (t : Table c rs) wh
       record {
         long = length-set rs f v ∙ t .long;
         supervisor = λ g h. let a = fp .0 in there g (λ e. omega arith) ∙ t .supervisor g h;
-        named = λ g gp ne. elim (cases-eq g f)
-          [ inl e ↦
+        named = λ g gp ne. elim (cases-eq g f) [
+          | inl e ↦
               let same : pageIn (set rs f v) g ≡ v .page = ap (pageIn (set rs f v)) e ∙ here in
               let k = nm (λ z. ne (same ∙ z)) in
               (k .0, ap (keyOf (c .partitions)) same ∙ k .1)
           | inr e ↦
               let k = t .named g gp (λ z. ne (there g e ∙ z)) in
-              (k .0, ap (keyOf (c .partitions)) (there g e) ∙ k .1) ];
-        vacant = λ g gp none. elim (cases-eq g f)
-          [ inl e ↦ ap (fixesIn (set rs f v)) e ∙ fixes-here rs f v fl ∙ vc (sym (ap (pageIn (set rs f v)) e ∙ here) ∙ none)
-          | inr e ↦ fixes-there rs f v g e ∙ t .vacant g gp (sym (there g e) ∙ none) ];
-        apart = λ g h gp hp same ne. elim (cases-eq g f)
-          [ inl e ↦ elim (cases-eq h f)
-            [ inl d ↦ e ∙ sym d
+              (k .0, ap (keyOf (c .partitions)) (there g e) ∙ k .1)
+        ];
+        vacant = λ g gp none. elim (cases-eq g f) [
+          | inl e ↦ ap (fixesIn (set rs f v)) e ∙ fixes-here rs f v fl ∙ vc (sym (ap (pageIn (set rs f v)) e ∙ here) ∙ none)
+          | inr e ↦ fixes-there rs f v g e ∙ t .vacant g gp (sym (there g e) ∙ none)
+        ];
+        apart = λ g h gp hp same ne. elim (cases-eq g f) [
+          | inl e ↦ elim (cases-eq h f) [
+            | inl d ↦ e ∙ sym d
             | inr d ↦
                 let gv : pageIn (set rs f v) g ≡ v .page = ap (pageIn (set rs f v)) e ∙ here in
-                absurd (alone (λ z. ne (gv ∙ z)) h hp d (sym (there h d) ∙ sym same ∙ gv)) ]
-          | inr e ↦ elim (cases-eq h f)
-            [ inl d ↦
+                absurd (alone (λ z. ne (gv ∙ z)) h hp d (sym (there h d) ∙ sym same ∙ gv))
+          ]
+          | inr e ↦ elim (cases-eq h f) [
+            | inl d ↦
                 let hv : pageIn (set rs f v) h ≡ v .page = ap (pageIn (set rs f v)) d ∙ here in
                 absurd (alone (λ z. ne (same ∙ hv ∙ z)) g gp e (sym (there g e) ∙ same ∙ hv))
-            | inr d ↦ t .apart g h gp hp (sym (there g e) ∙ same ∙ there h d) (λ z. ne (there g e ∙ z)) ] ];
+            | inr d ↦ t .apart g h gp hp (sym (there g e) ∙ same ∙ there h d) (λ z. ne (there g e ∙ z))
+          ]
+        ];
       }
 
   -- the count of a frame with a page changed
@@ -117,18 +122,21 @@ module _ (c : Config) (fit : Fits c) (rs : List FrameRecord) (ks : List ℕ) (k 
       → ((key : ℕ) → keyOf (c .partitions) (v .page) ≡ Some key → accessOf (getD ks f 0) ≡ key) → Keyed c (set rs f v) ks
   keyed-put f v fl h = record {
     long = k .long;
-    access = λ g key gp e. elim (cases-eq g f)
-      [ inl q ↦ ap (λ x. accessOf (getD ks x 0)) q ∙ h key (sym (ap (λ x. keyOf (c .partitions) x) (ap (pageIn (set rs f v)) q ∙ page-here rs f v fl)) ∙ e)
-      | inr q ↦ k .access g key gp (sym (ap (keyOf (c .partitions)) (page-there rs f v g q)) ∙ e) ];
+    access = λ g key gp e. elim (cases-eq g f) [
+      | inl q ↦ ap (λ x. accessOf (getD ks x 0)) q ∙ h key (sym (ap (λ x. keyOf (c .partitions) x) (ap (pageIn (set rs f v)) q ∙ page-here rs f v fl)) ∙ e)
+      | inr q ↦ k .access g key gp (sym (ap (keyOf (c .partitions)) (page-there rs f v g q)) ∙ e)
+    ];
   }
 
 -- A key of one frame changed, and not its access key.
 pub access-set : (ks : List ℕ) (f key : ℕ) → accessOf key ≡ accessOf (getD ks f 0) → (g : ℕ) → accessOf (getD (set ks f key) g 0) ≡ accessOf (getD ks g 0)
-access-set ks f key e g = elim (cases-eq g f)
-    [ inl q ↦ elim (cases-lt f (length ks))
-      [ inl l ↦ ap (λ x. accessOf (getD (set ks f key) x 0)) q ∙ ap accessOf (getD-set-same ks f key 0 l) ∙ e ∙ ap (λ x. accessOf (getD ks x 0)) (sym q)
-      | inr l ↦ ap (λ x. accessOf (getD x g 0)) (set-past ks f key l) ]
-    | inr q ↦ ap accessOf (getD-set-other ks f g key 0 q) ]
+access-set ks f key e g = elim (cases-eq g f) [
+  | inl q ↦ elim (cases-lt f (length ks)) [
+    | inl l ↦ ap (λ x. accessOf (getD (set ks f key) x 0)) q ∙ ap accessOf (getD-set-same ks f key 0 l) ∙ e ∙ ap (λ x. accessOf (getD ks x 0)) (sym q)
+    | inr l ↦ ap (λ x. accessOf (getD x g 0)) (set-past ks f key l)
+  ]
+  | inr q ↦ ap accessOf (getD-set-other ks f g key 0 q)
+]
 
 -- Bits of a key do not reach its access key, nor one bit the other.
 pub access-off : (key : ℕ) → accessOf (referenceOff key) ≡ accessOf key
@@ -181,11 +189,12 @@ module _ {S : Type 0} (r : stores.Rules S) (law : stores.Lawful r) (c : Config) 
   pub slots-put : (k : ℕ) (page : List ℕ) → k < c .pages - c .supervisor → length page ≡ 2048 → Slots r c (putOut r m k page) × r .good (putOut r m k page)
   slots-put k page h l =
       let u = slots k h in
-      let e = put-out r m k page u l in
-      ((λ j jh. let v = slots j jh in
-          subst (λ x. stores.Usable r x j) (sym e)
-          (subst (λ n. j < n) (sym (law .write-count m k page good u l)) (v .0), law .write-bad m k page j good u l ∙ v .1)),
-       subst (r .good) (sym e) (law .write-good m k page good u l))
+      let e = put-out r m k page u l in (
+        (λ j jh. let v = slots j jh in
+            subst (λ x. stores.Usable r x j) (sym e)
+            (subst (λ n. j < n) (sym (law .write-count m k page good u l)) (v .0), law .write-bad m k page j good u l ∙ v .1)),
+        subst (r .good) (sym e) (law .write-good m k page good u l),
+      )
 
 -- The translator, asked for an address whose page is in frame f.
 module _ {T : Type 0} (r : translators.Rules T) (law : translators.Lawful r) (c : Config) (fit : Fits c) (rs : List FrameRecord) (tab : Table c rs)
@@ -196,9 +205,10 @@ module _ {T : Type 0} (r : translators.Rules T) (law : translators.Lawful r) (c 
     inside = fit .keys (a / 2048) key part
 
     same-frame : (g : ℕ) → g < c .frames → pageIn rs g ≡ a / 2048 → g ≡ f
-    same-frame g h e = elim (cases-lt g (c .supervisor))
-        [ inl l ↦ let q = tab .supervisor g l in let i = inside .0 in absurd (omega arith)
-        | inr l ↦ tab .apart g f (l, h) fp (e ∙ sym has) (λ z. real-page c fit (a / 2048) key part (sym e ∙ z)) ]
+    same-frame g h e = elim (cases-lt g (c .supervisor)) [
+      | inl l ↦ let q = tab .supervisor g l in let i = inside .0 in absurd (omega arith)
+      | inr l ↦ tab .apart g f (l, h) fp (e ∙ sym has) (λ z. real-page c fit (a / 2048) key part (sym e ∙ z))
+    ]
 
     passed : checked (r .controls t) a ≡ Ok small
     passed = ap (λ (w : Controls). checked w a) (k .words) ∙ passes c a (let i = inside .1 in let m = fit .most in omega arith)
@@ -261,17 +271,18 @@ module _ (c : Config) (fit : Fits c) (rs : List FrameRecord) (tab : Table c rs) 
   from-key p start (Some key) low e h l = from-frame p key start (frameOf c s rs p) e refl h l
 
   pub led-frame : (p start : ℕ) → Led c fit s long p start → Framed p start
-  led-frame p start l = elim (cases-lt p (c .supervisor))
-      [ inl lo ↦
-          let e : half s (entryAt p) / 2 ≡ (8 * p + 1) / 2 = ents p (l .listed) ∙ ap (λ b. cond b (8 * p + 1) (outEntry c s rs p (keyOf (c .partitions) p)) / 2) (lt-ltb _ _ lo) in
-          let st = l .starts in
-          let q : half s (entryAt p) / 8 ≡ p = eighth (half s (entryAt p)) p (omega arith) in
-          let m = fit .some in
-          let n = fit .more in
-          let w = fit .few in
-          (p, omega arith, tab .supervisor p lo, omega arith, omega arith)
-      | inr hi ↦ from-key p start (keyOf (c .partitions) p) hi refl
-          (ents p (l .listed) ∙ ap (λ b. cond b (8 * p + 1) (outEntry c s rs p (keyOf (c .partitions) p)) / 2) (le-ltb _ _ hi)) l ]
+  led-frame p start l = elim (cases-lt p (c .supervisor)) [
+    | inl lo ↦
+        let e : half s (entryAt p) / 2 ≡ (8 * p + 1) / 2 = ents p (l .listed) ∙ ap (λ b. cond b (8 * p + 1) (outEntry c s rs p (keyOf (c .partitions) p)) / 2) (lt-ltb _ _ lo) in
+        let st = l .starts in
+        let q : half s (entryAt p) / 8 ≡ p = eighth (half s (entryAt p)) p (omega arith) in
+        let m = fit .some in
+        let n = fit .more in
+        let w = fit .few in
+        (p, omega arith, tab .supervisor p lo, omega arith, omega arith)
+    | inr hi ↦ from-key p start (keyOf (c .partitions) p) hi refl
+        (ents p (l .listed) ∙ ap (λ b. cond b (8 * p + 1) (outEntry c s rs p (keyOf (c .partitions) p)) / 2) (le-ltb _ _ hi)) l
+  ]
 
   pub agrees-frame : (p start : ℕ) → translators.Agrees s (controlsOf c) p start → Framed p start
   agrees-frame p start g =

@@ -158,8 +158,8 @@ module _ {T P S : Type 0} (r : Parts T P S) (law : LawfulParts r) (w : World T P
           part = part;
           long = after-long (w .config) (k .fits) (hollow .storage) hollow-long into p into-pageable pv filling filling-long;
           segment =
-            after-segment (w .config) (k .fits) (hollow .storage) hollow-long into p into-pageable pv filling filling-long (p / 32) (omega arith)
-            ∙ hollow-segment (p / 32) (omega arith) ∙ seg;
+              after-segment (w .config) (k .fits) (hollow .storage) hollow-long into p into-pageable pv filling filling-long (p / 32) (omega arith)
+              ∙ hollow-segment (p / 32) (omega arith) ∙ seg;
           entry = omega (arith, e);
         }
 

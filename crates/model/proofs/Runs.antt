@@ -77,12 +77,13 @@ module _ {T P S : Type 0} (r : Parts T P S) (law : LawfulParts r) where
         let ma : Mem r after bytes fixes = record {
           entries = mn .entries;
           content = content-keys (r .store) (law .store) (next .config) (kn .fits) (next .records) (next .keys) (after .keys) (next .store) (next .storage) bytes (mn .content)
-            (changed-set (next .keys) f (referenceOn (getD (next .keys) f 0)) (key-row next kn f (d .brought .pageable)) (changed-on (getD (next .keys) f 0)));
+              (changed-set (next .keys) f (referenceOn (getD (next .keys) f 0)) (key-row next kn f (d .brought .pageable)) (changed-on (getD (next .keys) f 0)));
           counts = mn .counts;
-        } in
-        (ap Byte (ap (λ n. getD (next .storage) n 0) (asked-is r law w next a (q .key) f d) ∙ byte-is r law next kn bytes fixes mn a (q .key) f (d .part) (d .brought .pageable) (d .brought .has)),
-         (λ _. stands r law after ka bytes fixes ma a (q .key) f (d .part) (d .brought .pageable) (d .brought .has) (w .config)),
-         record { mem = ma; same = sym (d .brought .same-config) })
+        } in (
+          ap Byte (ap (λ n. getD (next .storage) n 0) (asked-is r law w next a (q .key) f d) ∙ byte-is r law next kn bytes fixes mn a (q .key) f (d .part) (d .brought .pageable) (d .brought .has)),
+          (λ _. stands r law after ka bytes fixes ma a (q .key) f (d .part) (d .brought .pageable) (d .brought .has) (w .config)),
+          record { mem = ma; same = sym (d .brought .same-config) },
+        )
 
     store-done : (a key byte : ℕ) (q : Request) → decodeStore w a key ≡ Ok q
         → KeptBy (Store a key byte) (doneAnswer (storing r a byte w (Ok q) .0), storing r a byte w (Ok q) .1) (Done, byteSet here a byte)
@@ -103,16 +104,17 @@ module _ {T P S : Type 0} (r : Parts T P S) (law : LawfulParts r) where
         let mark = changeOn (referenceOn (getD (next .keys) f 0)) in
         let ma : Mem r after (set bytes a byte) fixes = record {
           entries = subst (λ n. Entries (next .config) (next .records) (set (next .storage) n byte)) (sym at)
-            (stored-entries (r .store) (next .config) (kn .fits) (next .records) (kn .table) (next .storage) (mn .entries) f (a % 2048) byte fp ne il);
+              (stored-entries (r .store) (next .config) (kn .fits) (next .records) (kn .table) (next .storage) (mn .entries) f (a % 2048) byte fp ne il);
           content = subst (λ n. Content (r .store) (next .config) (next .records) (after .keys) (next .store) (set (next .storage) n byte) (set bytes a byte)) (sym at)
-            (subst (λ n. Content (r .store) (next .config) (next .records) (after .keys) (next .store) (set (next .storage) (2048 * f + a % 2048) byte) (set bytes n byte)) whole
+              (subst (λ n. Content (r .store) (next .config) (next .records) (after .keys) (next .store) (set (next .storage) (2048 * f + a % 2048) byte) (set bytes n byte)) whole
               (stored-content (r .store) (next .config) (kn .fits) (next .records) (kn .table) (next .storage) (mn .entries) f (a % 2048) byte fp ne il
-                (next .keys) (key-row next kn f fp) mark (change-on (referenceOn (getD (next .keys) f 0))) (next .store) bytes (mn .content)));
+              (next .keys) (key-row next kn f fp) mark (change-on (referenceOn (getD (next .keys) f 0))) (next .store) bytes (mn .content)));
           counts = mn .counts;
-        } in
-        (refl,
-         (λ _. stands r law after ka (set bytes a byte) fixes ma a (q .key) f (d .part) fp (d .brought .has) (w .config)),
-         record { mem = ma; same = sym (d .brought .same-config) })
+        } in (
+          refl,
+          (λ _. stands r law after ka (set bytes a byte) fixes ma a (q .key) f (d .part) fp (d .brought .has) (w .config)),
+          record { mem = ma; same = sym (d .brought .same-config) },
+        )
 
     -- the count of a page in frame f changed
     count-mem : (next : World T P S) (kn : Consistent r next) (mn : Mem r next bytes fixes) (f n p : ℕ) (fp : Pageable (next .config) f) → (pageIn (next .records) f ≡ noPage → ⊥)
@@ -142,14 +144,18 @@ module _ {T P S : Type 0} (r : Parts T P S) (law : LawfulParts r) where
         let old : getD fixes p 0 ≡ fixesIn (next .records) f = ap (λ x. getD fixes x 0) (sym (d .brought .has)) ∙ mn .counts .inside f fp ne in
         let up : ltb 0 n ≡ true = lt-ltb 0 n (omega arith) in
         let total = elim (cases-eq (fixesIn (next .records) f) 0)
-          as (λ _. fixedPages (set fixes (pageIn (next .records) f) n) 0 (next .config .pages) ≡ fixedIn (set (next .records) f (record { page = pageIn (next .records) f; fixes = n })) (next .config .supervisor) (next .config .frames - next .config .supervisor))
-          [ inl z ↦ total-rises (next .config) (kn .fits) (next .records) (kn .table) fixes (mn .counts) f n fp ne up (le-ltb 0 _ (omega arith))
-          | inr z ↦ total-stays (next .config) (kn .fits) (next .records) (kn .table) fixes (mn .counts) f n fp ne (up ∙ sym (lt-ltb 0 _ (omega arith))) ] in
-        (refl, (λ _. tt), record {
-          mem = subst (λ x. Mem r (fixedIn1 r f next) bytes (set fixes p (x + 1))) (sym old)
-            (count-mem next kn mn f n p fp ne (d .brought .has) (next .translator) (fixedIn1 r f next .policy) total);
-          same = sym (d .brought .same-config);
-        })
+        as (λ _. fixedPages (set fixes (pageIn (next .records) f) n) 0 (next .config .pages) ≡ fixedIn (set (next .records) f (record { page = pageIn (next .records) f; fixes = n })) (next .config .supervisor) (next .config .frames - next .config .supervisor)) [
+          | inl z ↦ total-rises (next .config) (kn .fits) (next .records) (kn .table) fixes (mn .counts) f n fp ne up (le-ltb 0 _ (omega arith))
+          | inr z ↦ total-stays (next .config) (kn .fits) (next .records) (kn .table) fixes (mn .counts) f n fp ne (up ∙ sym (lt-ltb 0 _ (omega arith)))
+        ] in (
+          refl,
+          (λ _. tt),
+          record {
+            mem = subst (λ x. Mem r (fixedIn1 r f next) bytes (set fixes p (x + 1))) (sym old)
+                (count-mem next kn mn f n p fp ne (d .brought .has) (next .translator) (fixedIn1 r f next .policy) total);
+            same = sym (d .brought .same-config);
+          },
+        )
 
     free-done : (p : ℕ) (q : Request) → decodeFree w p ≡ Ok q
         → KeptBy (Free p) (doneAnswer (freeing r w (Ok q) .0), freeing r w (Ok q) .1) (Done, fixesSet here p (getD fixes p 0 - 1))
@@ -165,15 +171,19 @@ module _ {T P S : Type 0} (r : Parts T P S) (law : LawfulParts r) where
         let old : getD fixes p 0 ≡ fixesIn (w .records) f = ap (λ x. getD fixes x 0) (sym (g .3)) ∙ m .counts .inside f fp ne in
         let was : ltb 0 (fixesIn (w .records) f) ≡ true = lt-ltb 0 _ pos in
         let total = elim (cases-eq (fixesIn (w .records) f) 1)
-          as (λ _. fixedPages (set fixes (pageIn (w .records) f) n) 0 (w .config .pages) ≡ fixedIn (set (w .records) f (record { page = pageIn (w .records) f; fixes = n })) (w .config .supervisor) (w .config .frames - w .config .supervisor))
-          [ inl z ↦ total-falls (w .config) (k .fits) (w .records) (k .table) fixes (m .counts) f n fp ne (le-ltb 0 n (omega arith)) was
-          | inr z ↦ total-stays (w .config) (k .fits) (w .records) (k .table) fixes (m .counts) f n fp ne (lt-ltb 0 n (omega arith) ∙ sym was) ] in
-        (refl, (λ _. tt), record {
-          mem = subst (λ o. Mem r (freedIn r (broughtFrame r w o) w) bytes (set fixes p (getD fixes p 0 - 1))) (sym fr)
-            (subst (λ x. Mem r (freedIn r f w) bytes (set fixes p (x - 1))) (sym old)
-              (count-mem w k m f n p fp ne (g .3) (w .translator) (freedIn r f w .policy) total));
-          same = refl;
-        })
+        as (λ _. fixedPages (set fixes (pageIn (w .records) f) n) 0 (w .config .pages) ≡ fixedIn (set (w .records) f (record { page = pageIn (w .records) f; fixes = n })) (w .config .supervisor) (w .config .frames - w .config .supervisor)) [
+          | inl z ↦ total-falls (w .config) (k .fits) (w .records) (k .table) fixes (m .counts) f n fp ne (le-ltb 0 n (omega arith)) was
+          | inr z ↦ total-stays (w .config) (k .fits) (w .records) (k .table) fixes (m .counts) f n fp ne (lt-ltb 0 n (omega arith) ∙ sym was)
+        ] in (
+          refl,
+          (λ _. tt),
+          record {
+            mem = subst (λ o. Mem r (freedIn r (broughtFrame r w o) w) bytes (set fixes p (getD fixes p 0 - 1))) (sym fr)
+                (subst (λ x. Mem r (freedIn r f w) bytes (set fixes p (x - 1))) (sym old)
+                (count-mem w k m f n p fp ne (g .3) (w .translator) (freedIn r f w .policy) total));
+            same = refl;
+          },
+        )
 
     -- by what the tests give on both sides
     load-kept : (a key : ℕ) (d : Result Request Refusal) (f : Result (Unit {0}) Refusal) → decodeLoad w a key ≡ d → Agree r law d f
@@ -206,12 +216,13 @@ module _ {T P S : Type 0} (r : Parts T P S) (law : LawfulParts r) where
 
     -- every entry is what it should be
     entry-right : (p : ℕ) → p < 32 * segments (w .config) → entryIs (w .storage) p (entryShould (w .config) (w .storage) (w .records) p) ≡ true
-    entry-right p h = eq-eqb _ _ (elim (cases-lt p (w .config .supervisor))
-        [ inl l ↦
-            (let z = m .entries .low p l in let y : half (w .storage) (entryAt p) / 2 ≡ (8 * p + 1) / 2 = omega arith in y)
-            ∙ sym (ap (λ b. cond b (8 * p + 1) (outEntry (w .config) (w .storage) (w .records) p (keyOf (w .config .partitions) p)) / 2) (lt-ltb _ _ l))
-        | inr l ↦ by-key (keyOf (w .config .partitions) p) refl l
-            ∙ sym (ap (λ b. cond b (8 * p + 1) (outEntry (w .config) (w .storage) (w .records) p (keyOf (w .config .partitions) p)) / 2) (le-ltb _ _ l)) ])
+    entry-right p h = eq-eqb _ _ (elim (cases-lt p (w .config .supervisor)) [
+      | inl l ↦
+          (let z = m .entries .low p l in let y : half (w .storage) (entryAt p) / 2 ≡ (8 * p + 1) / 2 = omega arith in y)
+          ∙ sym (ap (λ b. cond b (8 * p + 1) (outEntry (w .config) (w .storage) (w .records) p (keyOf (w .config .partitions) p)) / 2) (lt-ltb _ _ l))
+      | inr l ↦ by-key (keyOf (w .config .partitions) p) refl l
+          ∙ sym (ap (λ b. cond b (8 * p + 1) (outEntry (w .config) (w .storage) (w .records) p (keyOf (w .config .partitions) p)) / 2) (le-ltb _ _ l))
+    ])
       where
         by-frame : (key : ℕ) → keyOf (w .config .partitions) p ≡ Some key → (o : Option ℕ) → frameOf (w .config) (w .storage) (w .records) p ≡ o → half (w .storage) (entryAt p) / 2 ≡ entryFor key o / 2
         by-frame key part (Some f) e =
@@ -230,8 +241,8 @@ module _ {T P S : Type 0} (r : Parts T P S) (law : LawfulParts r) where
     purge-passes =
         ap (λ b. andThen (unless b WrongLength) (λ _. unless (segmentsAre (w .config) (w .storage) 0 (segmentEntries (w .config)) && entriesAre (w .config) (w .storage) (w .records) 0 (32 * segments (w .config))) Tables)) (eq-eqb _ _ (m .entries .long))
         ∙ ap (λ b. unless b Tables) (and-from _ _
-          (all-segments (w .config) (w .storage) 0 (segmentEntries (w .config)) (λ g a b. m .entries .segs g (omega arith)))
-          (all-entries (w .config) (w .storage) (w .records) 0 (32 * segments (w .config)) (λ p a b. entry-right p (omega arith))))
+        (all-segments (w .config) (w .storage) 0 (segmentEntries (w .config)) (λ g a b. m .entries .segs g (omega arith)))
+        (all-entries (w .config) (w .storage) (w .records) 0 (32 * segments (w .config)) (λ p a b. entry-right p (omega arith))))
 
     purge-kept : KeptBy Purge (doneAnswer (purging r w (decodePurge w) .0), purging r w (decodePurge w) .1) (Done, here)
     purge-kept =
@@ -256,9 +267,10 @@ module _ {T P S : Type 0} (r : Parts T P S) (law : LawfulParts r) where
 
     saved : (next : World T P S) (config : Config) (p : ℕ) → backing (r .store) (next .config) (next .storage) (next .store) p ≡ page bytes (2048 * p)
         → Saved r next (record { config = config; bytes = bytes; fixes = fixes }) p
-    saved next config p e = elim (bit-is (half (next .storage) (entryAt p)))
-        [ inl z ↦ inl (z, sym (ap (λ n. cond (eqb n 1) zeros (r .store .slot (next .store) (p - next .config .supervisor))) z) ∙ e)
-        | inr z ↦ inr (z, sym e ∙ ap (λ n. cond (eqb n 1) zeros (r .store .slot (next .store) (p - next .config .supervisor))) z) ]
+    saved next config p e = elim (bit-is (half (next .storage) (entryAt p))) [
+      | inl z ↦ inl (z, sym (ap (λ n. cond (eqb n 1) zeros (r .store .slot (next .store) (p - next .config .supervisor))) z) ∙ e)
+      | inr z ↦ inr (z, sym e ∙ ap (λ n. cond (eqb n 1) zeros (r .store .slot (next .store) (p - next .config .supervisor))) z)
+    ]
 
     settle-kept : KeptBy Settle (doneAnswer (sweeping r w (decodeSettle w) .0), sweeping r w (decodeSettle w) .1) (Done, here)
     settle-kept =
@@ -267,15 +279,16 @@ module _ {T P S : Type 0} (r : Parts T P S) (law : LawfulParts r) where
         let s = swept-mem r law (w .config .supervisor) n w k bytes fixes m (omega arith) (omega arith) (λ g a b ne. absurd (omega arith)) in
         let next = swept r (w .config .supervisor) n w in
         let kn = settled-consistent in
-        subst (λ x. KeptBy Settle (doneAnswer (sweeping r w x .0), sweeping r w x .1) (Done, here)) (sym settle-passes)
-        (refl,
-         (λ _ p key part. saved next (w .config) p (behind-all next (s .same-config) (s .mem) kn
-           (λ g gp ne.
-             let gp2 : Pageable (w .config) g = subst (λ (c : Config). Pageable c g) (s .same-config) gp in
-             let hi = gp2 .1 in
-             s .clean g (gp2 .0) (omega arith) (λ z. ne (ap (λ rs. pageIn rs g) (s .same-records) ∙ z)))
-           p key part (whereIs next p) refl)),
-         record { mem = s .mem; same = sym (s .same-config) })
+        subst (λ x. KeptBy Settle (doneAnswer (sweeping r w x .0), sweeping r w x .1) (Done, here)) (sym settle-passes) (
+          refl,
+          (λ _ p key part. saved next (w .config) p (behind-all next (s .same-config) (s .mem) kn
+              (λ g gp ne.
+              let gp2 : Pageable (w .config) g = subst (λ (c : Config). Pageable c g) (s .same-config) gp in
+              let hi = gp2 .1 in
+              s .clean g (gp2 .0) (omega arith) (λ z. ne (ap (λ rs. pageIn rs g) (s .same-records) ∙ z)))
+              p key part (whereIs next p) refl)),
+          record { mem = s .mem; same = sym (s .same-config) },
+        )
       where
         settled-consistent : Consistent r (swept r (w .config .supervisor) (w .config .frames - w .config .supervisor) w)
         settled-consistent = let some = k .fits .some in Rattle.model.proofs.Kept.swept-own r law (w .config .supervisor) (w .config .frames - w .config .supervisor) w k (omega arith) (omega arith) (m .entries .long)
@@ -342,10 +355,10 @@ module _ {T P S : Type 0} (r : Parts T P S) (law : LawfulParts r) where
       inside = λ f fp ne. absurd (ne (no-page c fit f (fp .0)));
       clean = λ f fp ne off. absurd (ne (no-page c fit f (fp .0)));
       outside = λ p key e a.
-        let h = fit .keys p key e .1 in
-        ap (λ n. cond (eqb (n % 2) 1) zeros (r .store .slot (w .store) (p - c .supervisor))) (part-entry p key e)
-        ∙ ap (λ n. cond (eqb n 1) zeros (r .store .slot (w .store) (p - c .supervisor))) (let z : (5 + 16 * key) % 2 ≡ 1 = omega arith in z)
-        ∙ sym (laws .pages .blank (2048 * c .pages) (2048 * p) (omega arith));
+          let h = fit .keys p key e .1 in
+          ap (λ n. cond (eqb (n % 2) 1) zeros (r .store .slot (w .store) (p - c .supervisor))) (part-entry p key e)
+          ∙ ap (λ n. cond (eqb n 1) zeros (r .store .slot (w .store) (p - c .supervisor))) (let z : (5 + 16 * key) % 2 ≡ 1 = omega arith in z)
+          ∙ sym (laws .pages .blank (2048 * c .pages) (2048 * p) (omega arith));
     }
 
     zero-at : (n p : ℕ) → getD {A = ℕ} (replicate n 0) p 0 ≡ 0
@@ -362,8 +375,8 @@ module _ {T P S : Type 0} (r : Parts T P S) (law : LawfulParts r) where
       inside = λ f fp ne. absurd (ne (no-page c fit f (fp .0)));
       outside = λ p a. zero-at (c .pages) p;
       same =
-        none-counted (λ q. ltb 0 (getD (replicate (c .pages) 0) q 0)) 0 (c .pages) (λ g a. ap (λ n. ltb 0 n) (zero-at (c .pages) g))
-        ∙ sym (none-counted (λ g. ltb 0 (fixesIn rows g)) (c .supervisor) (c .frames - c .supervisor) (λ g a. ap (λ n. ltb 0 n) (no-fixes c fit g a)));
+          none-counted (λ q. ltb 0 (getD (replicate (c .pages) 0) q 0)) 0 (c .pages) (λ g a. ap (λ n. ltb 0 n) (zero-at (c .pages) g))
+          ∙ sym (none-counted (λ g. ltb 0 (fixesIn rows g)) (c .supervisor) (c .frames - c .supervisor) (λ g a. ap (λ n. ltb 0 n) (no-fixes c fit g a)));
     }
 
     pub started-side : Side r law (fresh r c w) (blank c)
@@ -371,12 +384,13 @@ module _ {T P S : Type 0} (r : Parts T P S) (law : LawfulParts r) where
 
     -- the entries as a purge would test them
     first-should : (p : ℕ) → p < 32 * segments c → half s0 (entryAt p) / 2 ≡ entryShould c s0 rows p / 2
-    first-should p pt = elim (cases-lt p (c .supervisor))
-        [ inl l ↦
-            ap (λ n. n / 2) (low-entry p l)
-            ∙ sym (ap (λ b. cond b (8 * p + 1) (outEntry c s0 rows p (keyOf (c .partitions) p)) / 2) (lt-ltb _ _ l))
-        | inr l ↦ by-key (keyOf (c .partitions) p) refl l
-            ∙ sym (ap (λ b. cond b (8 * p + 1) (outEntry c s0 rows p (keyOf (c .partitions) p)) / 2) (le-ltb _ _ l)) ]
+    first-should p pt = elim (cases-lt p (c .supervisor)) [
+      | inl l ↦
+          ap (λ n. n / 2) (low-entry p l)
+          ∙ sym (ap (λ b. cond b (8 * p + 1) (outEntry c s0 rows p (keyOf (c .partitions) p)) / 2) (lt-ltb _ _ l))
+      | inr l ↦ by-key (keyOf (c .partitions) p) refl l
+          ∙ sym (ap (λ b. cond b (8 * p + 1) (outEntry c s0 rows p (keyOf (c .partitions) p)) / 2) (le-ltb _ _ l))
+    ]
       where
         by-frame : (key : ℕ) → keyOf (c .partitions) p ≡ Some key → (o : Option ℕ) → frameOf c s0 rows p ≡ o → half s0 (entryAt p) / 2 ≡ entryFor key o / 2
         by-frame key e (Some f) q = let h = frame-some c s0 rows (fit .some) p f q in absurd (nobody c fit p key e f (h .0) (h .1))
@@ -401,7 +415,7 @@ module _ {T P S : Type 0} (r : Parts T P S) (law : LawfulParts r) where
           paired = record {
             words = law .translator .load-controls (w .translator) s0 (controlsOf c) (good .translator);
             each = λ p start v. agrees-frame c fit rows (first-table c fit) s0 sl (first-segment c fit (w .storage) long) first-should p start
-              (law .translator .load-agrees (w .translator) s0 (controlsOf c) p start (good .translator) v);
+                (law .translator .load-agrees (w .translator) s0 (controlsOf c) p start (good .translator) v);
           };
           slots = slots;
         }

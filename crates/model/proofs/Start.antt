@@ -51,14 +51,15 @@ in-order from v (a ∷ rest) p key e h =
     let first : from ≤ a .first = leb-true _ _ (u .0) in
     let last : a .first + a .count ≤ v = leb-true _ _ (t .0) in
     let most : a .key ≤ 15 = leb-true _ _ (z .0) in
-    (elim (leb (a .first) p && ltb p (a .first + a .count)) as (λ b. (leb (a .first) p && ltb p (a .first + a .count)) ≡ b → cond b (Some (a .key)) (keyOf rest p) ≡ Some key → (from ≤ p) × (p < v) × (key ≤ 15))
-      [ true ↦ λ b q.
+    (elim (leb (a .first) p && ltb p (a .first + a .count)) as (λ b. (leb (a .first) p && ltb p (a .first + a .count)) ≡ b → cond b (Some (a .key)) (keyOf rest p) ≡ Some key → (from ≤ p) × (p < v) × (key ≤ 15)) [
+      | true ↦ λ b q.
           let s : a .key ≡ key = cc in
           let i = and-parts _ _ b in
           let lo : a .first ≤ p = leb-true _ _ (i .0) in
           let hi : p < a .first + a .count = ltb-true _ _ (i .1) in
           (omega arith, omega arith, omega arith)
-      | false ↦ λ b q. let r = in-order (a .first + a .count) v rest p key (t .1) q in let lo : a .first + a .count ≤ p = r .0 in (omega arith, r .1, r .2) ]) refl h
+      | false ↦ λ b q. let r = in-order (a .first + a .count) v rest p key (t .1) q in let lo : a .first + a .count ≤ p = r .0 in (omega arith, r .1, r .2)
+    ]) refl h
 
 -- What the tests of sizes and partitions give.
 pub fits-from : (c : Config) (s : List ℕ) → sizesFit c s ≡ true → partitionsFit c ≡ true → Fits c × (length s ≡ 2048 * c .frames)
@@ -76,12 +77,18 @@ fits-from c s e q =
     let room : 1 + (segments c + 31) / 32 ≤ c .supervisor = leb-true _ _ (g .0) in
     let more : c .supervisor < c .pages = ltb-true _ _ (h .0) in
     let most : c .pages ≤ 8192 = leb-true _ _ (i .0) in
-    let parts = and-parts (leb (length (c .partitions)) 5) _ (and-parts (leb 1 (length (c .partitions))) _ q .1) .1 in
-    (record {
-      few = few; low = low; some = some; more = more; most = most;
-      tables = omega arith;
-      keys = λ p key k. in-order (c .supervisor) (c .pages) (c .partitions) p key parts k;
-    }, eqb-true _ _ (i .1))
+    let parts = and-parts (leb (length (c .partitions)) 5) _ (and-parts (leb 1 (length (c .partitions))) _ q .1) .1 in (
+      record {
+        few = few;
+        low = low;
+        some = some;
+        more = more;
+        most = most;
+        tables = omega arith;
+        keys = λ p key k. in-order (c .supervisor) (c .pages) (c .partitions) p key parts k;
+      },
+      eqb-true _ _ (i .1),
+    )
 
 -- The segment table.
 module _ (c : Config) where
@@ -103,15 +110,17 @@ module _ (c : Config) where
       let small : segmentWord c g < 2 ^ 32 = elim (ltb g (segments c)) as (λ b. cond b (0xF0000800 + 64 * g) 1 < 2 ^ 32) [ true ↦ omega arith | false ↦ omega arith ] in
       record {
         long = rest .long ∙ pl;
-        stands = λ i a b. elim (cases-eq i g)
-          [ inl e ↦
+        stands = λ i a b. elim (cases-eq i g) [
+          | inl e ↦
               ap (λ x. word (withSegments c (g + 1) n s1) (segmentAt x)) e
               ∙ laws .alike .word-alike (withSegments c (g + 1) n s1) s1 (segmentAt g) (λ j x y. rest .kept j (inl (omega arith)))
               ∙ laws .same .word-same s (segmentAt g) v (omega arith) small ∙ ap (segmentWord c) (sym e)
-          | inr e ↦ rest .stands i (omega arith) (omega arith) ];
-        kept = λ j o. elim o
-          [ inl x ↦ rest .kept j (inl (omega arith)) ∙ put .kept j (inl x)
-          | inr x ↦ rest .kept j (inr (omega arith)) ∙ put .kept j (inr (omega arith)) ];
+          | inr e ↦ rest .stands i (omega arith) (omega arith)
+        ];
+        kept = λ j o. elim o [
+          | inl x ↦ rest .kept j (inl (omega arith)) ∙ put .kept j (inl x)
+          | inr x ↦ rest .kept j (inr (omega arith)) ∙ put .kept j (inr (omega arith))
+        ];
       }
 
   -- the page tables likewise
@@ -132,15 +141,17 @@ module _ (c : Config) where
       let fits : v < 2 ^ 16 = elim (small p) [ inl x ↦ x | inr x ↦ absurd (omega arith) ] in
       record {
         long = rest .long ∙ pl;
-        stands = λ i a b. elim (cases-eq i p)
-          [ inl e ↦
+        stands = λ i a b. elim (cases-eq i p) [
+          | inl e ↦
               ap (λ x. half (withEntries c (p + 1) n s1) (entryAt x)) e
               ∙ laws .alike .half-alike (withEntries c (p + 1) n s1) s1 (entryAt p) (λ j x y. rest .kept j (inl (omega arith)))
               ∙ laws .same .half-same s (entryAt p) v (omega arith) fits ∙ ap (firstEntry c) (sym e)
-          | inr e ↦ rest .stands i (omega arith) (omega arith) ];
-        kept = λ j o. elim o
-          [ inl x ↦ rest .kept j (inl (omega arith)) ∙ put .kept j (inl x)
-          | inr x ↦ rest .kept j (inr (omega arith)) ∙ put .kept j (inr (omega arith)) ];
+          | inr e ↦ rest .stands i (omega arith) (omega arith)
+        ];
+        kept = λ j o. elim o [
+          | inl x ↦ rest .kept j (inl (omega arith)) ∙ put .kept j (inl x)
+          | inr x ↦ rest .kept j (inr (omega arith)) ∙ put .kept j (inr (omega arith))
+        ];
       }
 
 -- Both tables.
@@ -149,9 +160,10 @@ module _ (c : Config) (fit : Fits c) (s : List ℕ) (long : length s ≡ 2048 * 
   key-small p key e = fit .keys p key e .2
 
   entry-small : (p : ℕ) → firstEntry c p < 2 ^ 16 ⊎ (0 + 32 * segments c ≤ p)
-  entry-small p = elim (cases-lt p (c .supervisor))
-      [ inl l ↦ inl (subst (λ n. n < 2 ^ 16) (sym (ap (λ b. cond b (8 * p + 1) (partitionEntry (keyOf (c .partitions) p))) (lt-ltb _ _ l))) (let a = fit .some in let b = fit .few in omega arith))
-      | inr l ↦ inl (subst (λ n. n < 2 ^ 16) (sym (ap (λ b. cond b (8 * p + 1) (partitionEntry (keyOf (c .partitions) p))) (le-ltb _ _ l))) (by-key (keyOf (c .partitions) p) refl)) ]
+  entry-small p = elim (cases-lt p (c .supervisor)) [
+    | inl l ↦ inl (subst (λ n. n < 2 ^ 16) (sym (ap (λ b. cond b (8 * p + 1) (partitionEntry (keyOf (c .partitions) p))) (lt-ltb _ _ l))) (let a = fit .some in let b = fit .few in omega arith))
+    | inr l ↦ inl (subst (λ n. n < 2 ^ 16) (sym (ap (λ b. cond b (8 * p + 1) (partitionEntry (keyOf (c .partitions) p))) (le-ltb _ _ l))) (by-key (keyOf (c .partitions) p) refl))
+  ]
     where
       by-key : (o : Option ℕ) → keyOf (c .partitions) p ≡ o → partitionEntry o < 2 ^ 16
       by-key None e = omega arith
@@ -190,14 +202,17 @@ own-pages f zero rs h = (refl, (λ g a b. absurd (omega arith)), λ g o. refl)
 own-pages f (suc n) rs h =
     let v : FrameRecord = record { page = f; fixes = 0 } in
     let l = length-set rs f v in
-    let r = own-pages (f + 1) n (set rs f v) (omega arith) in
-    (r .0 ∙ l,
-     (λ g a b. elim (cases-eq g f)
-       [ inl e ↦ r .2 g (inl (omega arith)) ∙ ap (λ x. getD (set rs f v) x vacant) e ∙ getD-set-same rs f v vacant (omega arith) ∙ ap (λ x. record { page = x; fixes = 0 }) (sym e)
-       | inr e ↦ r .1 g (omega arith) (omega arith) ]),
-     λ g o. elim o
-       [ inl x ↦ r .2 g (inl (omega arith)) ∙ getD-set-other rs f g v vacant (λ e. omega arith)
-       | inr x ↦ r .2 g (inr (omega arith)) ∙ getD-set-other rs f g v vacant (λ e. omega arith) ])
+    let r = own-pages (f + 1) n (set rs f v) (omega arith) in (
+      r .0 ∙ l,
+      (λ g a b. elim (cases-eq g f) [
+        | inl e ↦ r .2 g (inl (omega arith)) ∙ ap (λ x. getD (set rs f v) x vacant) e ∙ getD-set-same rs f v vacant (omega arith) ∙ ap (λ x. record { page = x; fixes = 0 }) (sym e)
+        | inr e ↦ r .1 g (omega arith) (omega arith)
+      ]),
+      λ g o. elim o [
+        | inl x ↦ r .2 g (inl (omega arith)) ∙ getD-set-other rs f g v vacant (λ e. omega arith)
+        | inr x ↦ r .2 g (inr (omega arith)) ∙ getD-set-other rs f g v vacant (λ e. omega arith)
+      ],
+    )
 
 pub first-records : (c : Config) → List FrameRecord
 first-records c = ownPages 0 (c .supervisor) (replicate 256 vacant)
@@ -215,9 +230,10 @@ module _ (c : Config) (fit : Fits c) where
   rows-are = own-pages 0 (c .supervisor) (replicate 256 vacant) (let a = all-rows in let b = fit .some in let d = fit .few in omega arith)
 
   pub row-vacant : (g : ℕ) → c .supervisor ≤ g → getD rows g vacant ≡ vacant
-  row-vacant g h = rows-are .2 g (inr (omega arith)) ∙ elim (cases-lt g 256)
-      [ inl l ↦ getD-replicate 256 g vacant vacant l
-      | inr l ↦ getD-past (replicate 256 vacant) g vacant (let a = all-rows in omega arith) ]
+  row-vacant g h = rows-are .2 g (inr (omega arith)) ∙ elim (cases-lt g 256) [
+    | inl l ↦ getD-replicate 256 g vacant vacant l
+    | inr l ↦ getD-past (replicate 256 vacant) g vacant (let a = all-rows in omega arith)
+  ]
 
   pub no-page : (g : ℕ) → c .supervisor ≤ g → pageIn rows g ≡ noPage
   no-page g h = ap (λ (x : FrameRecord). x .page) (row-vacant g h)
@@ -249,14 +265,17 @@ module _ {P : Type 0} (r : policies.Rules P) (law : policies.Lawful r) where
       let times : (g : ℕ) → r .times m1 g ≡ cond (eqb g f && policies.free r m f) 1 (r .times m g) = λ g. law .back-times m f g false false good in
       let other : (g : ℕ) → (g ≡ f → ⊥) → r .times m1 g ≡ r .times m g = λ g ne. times g ∙ ap (λ b. cond (b && policies.free r m f) 1 (r .times m g)) (ne-eqb g f ne) in
       let here : r .times m1 f ≡ 1 = times f ∙ ap (λ b. cond (b && policies.free r m f) 1 (r .times m f)) (eq-eqb f f refl) ∙ ap (λ b. cond b 1 (r .times m f)) free in
-      let rest = returned-are (f + 1) n m1 (omega arith) (law .back-good m f false false good) (λ g a. other g (λ e. omega arith) ∙ none g (omega arith)) in
-      (rest .0,
-       (λ g a b. elim (cases-eq g f)
-         [ inl e ↦ rest .2 g (inl (omega arith)) ∙ ap (r .times m1) e ∙ here
-         | inr e ↦ rest .1 g (omega arith) (omega arith) ]),
-       λ g o. elim o
-         [ inl x ↦ rest .2 g (inl (omega arith)) ∙ other g (λ e. omega arith)
-         | inr x ↦ rest .2 g (inr (omega arith)) ∙ other g (λ e. omega arith) ])
+      let rest = returned-are (f + 1) n m1 (omega arith) (law .back-good m f false false good) (λ g a. other g (λ e. omega arith) ∙ none g (omega arith)) in (
+        rest .0,
+        (λ g a b. elim (cases-eq g f) [
+          | inl e ↦ rest .2 g (inl (omega arith)) ∙ ap (r .times m1) e ∙ here
+          | inr e ↦ rest .1 g (omega arith) (omega arith)
+        ]),
+        λ g o. elim o [
+          | inl x ↦ rest .2 g (inl (omega arith)) ∙ other g (λ e. omega arith)
+          | inr x ↦ rest .2 g (inr (omega arith)) ∙ other g (λ e. omega arith)
+        ],
+      )
 
   pub first-holding : (c : Config) (fit : Fits c) (m : P) → r .good m
       → r .good (returned r (c .supervisor) (c .frames - c .supervisor) (r .clear m))
@@ -265,12 +284,14 @@ module _ {P : Type 0} (r : policies.Rules P) (law : policies.Lawful r) where
       let some = fit .some in
       let few = fit .few in
       let none : (g : ℕ) → r .times (r .clear m) g ≡ 0 = λ g. law .clear-times m g good in
-      let k = returned-are (c .supervisor) (c .frames - c .supervisor) (r .clear m) (omega arith) (law .clear-good m good) (λ g a. none g) in
-      (k .0, record {
-        free = λ f fp e. k .1 f (fp .0) (let a = fp .1 in omega arith);
-        fixed = λ f fp l. let z = no-fixes c fit f (fp .0) in absurd (omega arith);
-        other = λ f o. k .2 f (elim o [ inl x ↦ inl x | inr x ↦ inr (omega arith) ]) ∙ none f;
-      })
+      let k = returned-are (c .supervisor) (c .frames - c .supervisor) (r .clear m) (omega arith) (law .clear-good m good) (λ g a. none g) in (
+        k .0,
+        record {
+          free = λ f fp e. k .1 f (fp .0) (let a = fp .1 in omega arith);
+          fixed = λ f fp l. let z = no-fixes c fit f (fp .0) in absurd (omega arith);
+          other = λ f o. k .2 f (elim o [ inl x ↦ inl x | inr x ↦ inr (omega arith) ]) ∙ none f;
+        },
+      )
 
 -- The slots.
 module _ {S : Type 0} (r : stores.Rules S) (m : S) where
@@ -288,6 +309,7 @@ module _ {S : Type 0} (r : stores.Rules S) (m : S) where
   no-fault k zero e j a b = absurd (omega arith)
   no-fault k (suc n) e j a b =
       let p = or-none (slotFault r m k) (firstFault r m (k + 1) n) e in
-      elim (cases-eq j k)
-      [ inl z ↦ subst (stores.Usable r m) (sym z) (usable-from k (ltb k (r .count m)) (r .bad m k) refl refl (p .0))
-      | inr z ↦ no-fault (k + 1) n (p .1) j (omega arith) (omega arith) ]
+      elim (cases-eq j k) [
+        | inl z ↦ subst (stores.Usable r m) (sym z) (usable-from k (ltb k (r .count m)) (r .bad m k) refl refl (p .0))
+        | inr z ↦ no-fault (k + 1) n (p .1) j (omega arith) (omega arith)
+      ]

@@ -136,39 +136,40 @@ module _ (c : Config) (fit : Fits c) (s : List ℕ) (long : length s ≡ 2048 * 
         let more = fit .more in
         let e : entry ≡ segmentWord c segment = sg .stands ∙ ap (word s) at ∙ segs segment (omega arith) in
         let v = sg .valid in
-        elim (cases-lt segment (segments c))
-        [ inl l ↦
-            let e1 : entry ≡ 0xF0000800 + 64 * segment = e ∙ ap (λ b. cond b (0xF0000800 + 64 * segment) 1) (lt-ltb _ _ l) in
-            let g256 : segment < 256 = omega arith in
-            let o : 8 * wordBits 8 28 entry ≡ 2048 + 64 * segment = ap (λ n. 8 * wordBits 8 28 n) e1 ∙ origin segment g256 in
-            let whole : p ≡ 32 * segment + index = omega (arith, sum, ip, is) in
-            let place : 8 * wordBits 8 28 entry + 2 * index ≡ entryAt p = omega (arith, o, whole) in
-            let none : byte ≡ 0 = omega (arith, sum, whole) in
-            let short : index < 32 = omega (arith, is) in
-            let hs : h ≡ half s (entryAt p) = pg .stands ∙ ap (half s) place in
-            let v0 = pg .valid .0 in
-            let v1 = pg .valid .1 in
-            record {
-              listed = omega arith;
-              valid = subst (λ x. x / 2 % 4 ≡ 0) hs (both-off h v0 v1);
-              starts = subst (λ x. start ≡ 2048 * (x / 8 % 8192)) hs (omega arith);
-            }
-        | inr l ↦
-            let e1 : entry ≡ 1 = e ∙ ap (λ b. cond b (0xF0000800 + 64 * segment) 1) (le-ltb _ _ l) in
-            absurd (omega arith) ]
+        elim (cases-lt segment (segments c)) [
+          | inl l ↦
+              let e1 : entry ≡ 0xF0000800 + 64 * segment = e ∙ ap (λ b. cond b (0xF0000800 + 64 * segment) 1) (lt-ltb _ _ l) in
+              let g256 : segment < 256 = omega arith in
+              let o : 8 * wordBits 8 28 entry ≡ 2048 + 64 * segment = ap (λ n. 8 * wordBits 8 28 n) e1 ∙ origin segment g256 in
+              let whole : p ≡ 32 * segment + index = omega (arith, sum, ip, is) in
+              let place : 8 * wordBits 8 28 entry + 2 * index ≡ entryAt p = omega (arith, o, whole) in
+              let none : byte ≡ 0 = omega (arith, sum, whole) in
+              let short : index < 32 = omega (arith, is) in
+              let hs : h ≡ half s (entryAt p) = pg .stands ∙ ap (half s) place in
+              let v0 = pg .valid .0 in
+              let v1 = pg .valid .1 in
+              record {
+                listed = omega arith;
+                valid = subst (λ x. x / 2 % 4 ≡ 0) hs (both-off h v0 v1);
+                starts = subst (λ x. start ≡ 2048 * (x / 8 % 8192)) hs (omega arith);
+              }
+          | inr l ↦
+              let e1 : entry ≡ 1 = e ∙ ap (λ b. cond b (0xF0000800 + 64 * segment) 1) (le-ltb _ _ l) in
+              absurd (omega arith)
+        ]
 
     -- the fields of a relation, at sizes that are known
     led-at : (z : Sizes) (p start segment index byte entry h : ℕ) → z ≡ small → Splits z (p * 2048) segment index byte
         → SegmentGives s (controlsOf c .cr1) segment entry → PageGives s z entry index h → start ≡ frameField (z .page) h * pageBytes (z .page) + byte → Led p start
     led-at z p start segment index byte entry h e sp sg pg makes =
         led-small p start segment index byte entry h
-          (subst (λ (y : Sizes). Splits y (p * 2048) segment index byte) e sp) sg
-          (subst (λ (y : Sizes). PageGives s y entry index h) e pg)
-          (subst (λ (y : Sizes). start ≡ frameField (y .page) h * pageBytes (y .page) + byte) e makes)
+        (subst (λ (y : Sizes). Splits y (p * 2048) segment index byte) e sp) sg
+        (subst (λ (y : Sizes). PageGives s y entry index h) e pg)
+        (subst (λ (y : Sizes). start ≡ frameField (y .page) h * pageBytes (y .page) + byte) e makes)
 
     pub walk-led : (p start : ℕ) → walk s (controlsOf c) (p * 2048) ≡ Ok start → Led p start
     walk-led p start e =
         let l = found s (controlsOf c) (p * 2048) start e in
         led-at (l .sizes) p start (l .segment) (l .page) (l .byte) (l .segment-entry) (l .page-entry)
-          (small-only (l .sizes .page) (l .sizes .segment) (l .names .page) (l .names .segment))
-          (l .splits) (l .from-segment) (l .from-page) (l .makes)
+        (small-only (l .sizes .page) (l .sizes .segment) (l .names .page) (l .names .segment))
+        (l .splits) (l .from-segment) (l .from-page) (l .makes)

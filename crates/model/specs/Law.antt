@@ -104,7 +104,7 @@ module _ {T P S : Type 0} (r : Parts T P S) where
   -- the law over whole runs: after an answered IPL, every list of calls
   abbrev pub LawOf : Type 0
   LawOf = (c : Config) (w : World T P S) → GoodParts r (w .translator) (w .policy) (w .store) → ipl r c w .0 ≡ Ok tt
-    → (calls : List Call) → Sound calls (ipl r c w .1) (blank c)
+      → (calls : List Call) → Sound calls (ipl r c w .1) (blank c)
 
 -- What IPL has tested.
 pub record Fits (c : Config) : Type 0 where
@@ -139,7 +139,7 @@ pub record Holding {P : Type 0} (r : policies.Rules P) (c : Config) (rs : List F
 pub record Paired {T : Type 0} (r : translators.Rules T) (c : Config) (rs : List FrameRecord) (t : T) : Type 0 where
   pub words : r .controls t ≡ controlsOf c
   pub each : (p start : ℕ) → r .vouches t p start ≡ true
-    → (f : ℕ) × (f < c .frames) × (pageIn rs f ≡ p) × (p < c .pages) × (start ≡ 2048 * f)
+      → (f : ℕ) × (f < c .frames) × (pageIn rs f ≡ p) × (p < c .pages) × (start ≡ 2048 * f)
 
 -- The slots of all pages can be used.
 abbrev pub Slots : {S : Type 0} → stores.Rules S → Config → S → Type 0
@@ -200,4 +200,4 @@ module _ {T P S : Type 0} (r : Parts T P S) where
   -- the law over disturbed runs
   abbrev pub SteadyOf : Type 0
   SteadyOf = (c : Config) (w : World T P S) → GoodParts r (w .translator) (w .policy) (w .store) → ipl r c w .0 ≡ Ok tt
-    → (calls : List (List ℕ × Call)) → Steady calls (ipl r c w .1)
+      → (calls : List (List ℕ × Call)) → Steady calls (ipl r c w .1)

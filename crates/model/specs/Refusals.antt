@@ -116,7 +116,7 @@ module _ {T P S : Type 0} (w : World T P S) where
   decodePurge =
       andThen (unless rightLength Sizes) (λ _.
       unless (segmentsAre (w .config) (w .storage) 0 (segmentEntries (w .config))
-        && entriesAre (w .config) (w .storage) (w .records) 0 (32 * segments (w .config))) Tables)
+      && entriesAre (w .config) (w .storage) (w .records) 0 (32 * segments (w .config))) Tables)
 
   -- Settle: 32, 54 for any page that a frame has
   unfoldable pub decodeSettle : Result (Unit {0}) Refusal

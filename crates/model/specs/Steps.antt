@@ -216,9 +216,10 @@ module _ {T P S : Type 0} (r : Parts T P S) where
   -- Each call, by what its tests have given.
   abbrev pub loading : ℕ → World T P S → Result Request Refusal → Result ℕ Refusal × World T P S
   loading a w (Err why) = (Err why, w)
-  loading a w (Ok q) =
-      (Ok (getD (brought (q .page) (q .key) w (q .frame) .storage) (asked a (broughtFrame w (q .frame)) (brought (q .page) (q .key) w (q .frame))) 0),
-       loadedIn a (broughtFrame w (q .frame)) (brought (q .page) (q .key) w (q .frame)))
+  loading a w (Ok q) = (
+    Ok (getD (brought (q .page) (q .key) w (q .frame) .storage) (asked a (broughtFrame w (q .frame)) (brought (q .page) (q .key) w (q .frame))) 0),
+    loadedIn a (broughtFrame w (q .frame)) (brought (q .page) (q .key) w (q .frame)),
+  )
 
   abbrev pub storing : ℕ → ℕ → World T P S → Result Request Refusal → Result (Unit {0}) Refusal × World T P S
   storing a byte w (Err why) = (Err why, w)

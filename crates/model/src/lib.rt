@@ -5,4 +5,5 @@
 //! the law over whole runs; `proofs/` proves it for every translator, policy and page store. There is hardly any code:
 //! `law_stands` carries the theorems.
 pub mod calls;
+pub mod law;
 pub mod shape;
