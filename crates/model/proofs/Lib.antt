@@ -12,3 +12,4 @@ pub mod Beside
 pub mod Answered
 pub mod Start
 pub mod Runs
+pub mod Tested

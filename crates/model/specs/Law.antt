@@ -18,13 +18,14 @@ use Rattle.model.specs.declared.calls.Call.the-variants.{Load, Store, Fix, Fre
 use Rattle.model.specs.declared.calls.Refusal.{Refusal}
 use Rattle.model.specs.declared.shape.FrameRecord.{FrameRecord}
 use Rattle.model.specs.Flat.{Flat, blank, flat}
-use Rattle.model.specs.Ipl.{ipl}
-use Rattle.model.specs.Layout.{bit15, controlsOf, entryAt, fixesIn, keyOf, noPage, pageIn, segments}
-use Rattle.model.specs.Refusals.{decodeFix, decodeFree, decodeLoad, decodePurge, decodeSettle, decodeStore}
+use Rattle.model.specs.declared.calls.IplRefusal.{IplRefusal}
+use Rattle.model.specs.Ipl.{firstEntry, ipl, partitionsFit, sizesFit, withTables}
+use Rattle.model.specs.Layout.{bit15, controlsOf, entryAt, fixesIn, keyOf, noPage, pageIn, segmentAt, segmentEntries, segmentWord, segments}
+use Rattle.model.specs.Refusals.{decodeFix, decodeFree, decodeLoad, decodePurge, decodeSettle, decodeStore, tablesRight, whereIs}
 use Rattle.model.specs.Steps.{worked}
 use Rattle.model.specs.World.{Config, GoodParts, LawfulParts, Parts, World}
 use Rattle.pages.specs.Store as stores
-use Rattle.storage.specs.Bytes.{half, page, zeros}
+use Rattle.storage.specs.Bytes.{half, page, word, zeros}
 use Rattle.tables.specs.Bits.{halfBits}
 use Rattle.tables.specs.Walk.{walk}
 use Rattle.translation.specs.Translator as translators
@@ -155,6 +156,32 @@ pub record Consistent {T P S : Type 0} (r : Parts T P S) (w : World T P S) : Typ
   pub paired : Paired (r .translator) (w .config) (w .records) (w .translator)
   pub slots : Slots (r .store) (w .config) (w .store)
 
+-- What IPL does to main storage: it writes both tables, and alters no other byte.
+pub record Written (c : Config) (s t : List ℕ) : Type 0 where
+  pub long : length t ≡ length s
+  pub segment : (g : ℕ) → g < segmentEntries c → word t (segmentAt g) ≡ segmentWord c g
+  pub entry : (p : ℕ) → p < 32 * segments c → half t (entryAt p) ≡ firstEntry c p
+  pub below : (j : ℕ) → j < segmentAt 0 → getD t j 0 ≡ getD s j 0
+  pub between : (j : ℕ) → segmentAt (segmentEntries c) ≤ j → j < entryAt 0 → getD t j 0 ≡ getD s j 0
+  pub above : (j : ℕ) → entryAt (32 * segments c) ≤ j → getD t j 0 ≡ getD s j 0
+
+abbrev pub TablesOf : Type 0
+TablesOf = (c : Config) (s : List ℕ) → sizesFit c s ≡ true → partitionsFit c ≡ true → Written c s (withTables c s)
+
+-- The entries of the page that frame f has are right.
+pub record FrameRight (c : Config) (s : List ℕ) (rs : List FrameRecord) (f : ℕ) : Type 0 where
+  pub segment : word s (segmentAt (pageIn rs f / 32)) ≡ segmentWord c (pageIn rs f / 32)
+  pub entry : half s (entryAt (pageIn rs f)) / 2 ≡ 4 * f
+
+-- The tables are what IPL, partitions and frame table give, bit 15 of a page entry aside: the page's segment entry; its
+-- page entry, which names its frame, or is invalid with its key where no frame has it; and in that case the entries of
+-- every page that a frame has.
+pub record TablesRight (c : Config) (s : List ℕ) (rs : List FrameRecord) (p key : ℕ) : Type 0 where
+  pub segment : word s (segmentAt (p / 32)) ≡ segmentWord c (p / 32)
+  pub inside : (f : ℕ) → Pageable c f → pageIn rs f ≡ p → half s (entryAt p) / 2 ≡ 4 * f
+  pub outside : ((f : ℕ) → Pageable c f → pageIn rs f ≡ p → ⊥) → half s (entryAt p) / 2 ≡ 2 + 8 * key
+  pub others : ((f : ℕ) → Pageable c f → pageIn rs f ≡ p → ⊥) → (g : ℕ) → Pageable c g → (pageIn rs g ≡ noPage → ⊥) → FrameRight c s rs g
+
 -- The first refusal of the table that holds, if any.
 abbrev pub refusedBy : {A : Type 0} → Result A Refusal → Option Refusal
 refusedBy (Ok x) = None
@@ -196,6 +223,18 @@ module _ {T P S : Type 0} (r : Parts T P S) where
       Consistent r w
       × Told (c .1) (handed (c .0) w) (firstRefusal (c .1) (handed (c .0) w))
       × Steady cs (worked r (c .1) (handed (c .0) w) .1)
+
+  -- in a consistent machine the test of 54 is just whether the tables are right
+  pub record Tested (w : World T P S) (p key : ℕ) : Type 0 where
+    pub to : tablesRight w p key (whereIs w p) ≡ true → TablesRight (w .config) (w .storage) (w .records) p key
+    pub from : TablesRight (w .config) (w .storage) (w .records) p key → tablesRight w p key (whereIs w p) ≡ true
+
+  abbrev pub TestOf : Type 0
+  TestOf = (w : World T P S) (p key : ℕ) → Consistent r w → keyOf (w .config .partitions) p ≡ Some key → Tested w p key
+
+  -- a refused IPL leaves everything as found
+  abbrev pub RefusedOf : Type 0
+  RefusedOf = (c : Config) (w : World T P S) (why : IplRefusal) → ipl r c w .0 ≡ Err why → ipl r c w .1 ≡ w
 
   -- the law over disturbed runs
   abbrev pub SteadyOf : Type 0
