@@ -139,7 +139,7 @@ module _ {T P S : Type 0} (r : Parts T P S) (law : LawfulParts r) where
             omega arith;
       })
       | inr z ↦
-          let ne : pageIn (w .records) f ≡ noPage → ⊥ = λ e. z (k .table .vacant f fp e) in
+          let ne : pageIn (w .records) f ≡ noPage → ⊥ = λ e. z (k .table .unused f fp e) in
           let c = count-is f (pageIn (w .records) f) fp refl ne in
           inr (record {
             not-held = k .holding .fixed f fp (omega arith);

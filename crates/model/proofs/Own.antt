@@ -82,9 +82,11 @@ module _ (c : Config) (fit : Fits c) (rs : List FrameRecord) (t : Table c rs) wh
               let k = t .named g gp (λ z. ne (there g e ∙ z)) in
               (k .0, ap (keyOf (c .partitions)) (there g e) ∙ k .1)
         ];
-        vacant = λ g gp none. elim (cases-eq g f) [
+        unfixed = λ g h. let a = fp .0 in fixes-there rs f v g (λ e. omega arith) ∙ t .unfixed g h;
+        past = λ g h. let a = fp .1 in getD-set-other rs f g v vacant (λ e. omega arith) ∙ t .past g h;
+        unused = λ g gp none. elim (cases-eq g f) [
           | inl e ↦ ap (fixesIn (set rs f v)) e ∙ fixes-here rs f v fl ∙ vc (sym (ap (pageIn (set rs f v)) e ∙ here) ∙ none)
-          | inr e ↦ fixes-there rs f v g e ∙ t .vacant g gp (sym (there g e) ∙ none)
+          | inr e ↦ fixes-there rs f v g e ∙ t .unused g gp (sym (there g e) ∙ none)
         ];
         apart = λ g h gp hp same ne. elim (cases-eq g f) [
           | inl e ↦ elim (cases-eq h f) [

@@ -256,7 +256,9 @@ module _ (c : Config) (fit : Fits c) where
     long = rows-are .0 ∙ all-rows;
     supervisor = λ f h. ap (λ (x : FrameRecord). x .page) (rows-are .1 f (omega arith) (omega arith));
     named = λ f fp ne. absurd (ne (no-page f (fp .0)));
-    vacant = λ f fp e. no-fixes f (fp .0);
+    unfixed = λ f h. ap (λ (x : FrameRecord). x .fixes) (rows-are .1 f (omega arith) (omega arith));
+    past = λ f h. row-vacant f (let a = fit .some in omega arith);
+    unused = λ f fp e. no-fixes f (fp .0);
     apart = λ f g fp gp e ne. absurd (ne (no-page f (fp .0)));
   }
 

@@ -20,7 +20,7 @@ use Rattle.model.specs.declared.shape.FrameRecord.{FrameRecord}
 use Rattle.model.specs.Flat.{Flat, blank, flat}
 use Rattle.model.specs.declared.calls.IplRefusal.{IplRefusal}
 use Rattle.model.specs.Ipl.{firstEntry, ipl, partitionsFit, sizesFit, withTables}
-use Rattle.model.specs.Layout.{bit15, controlsOf, entryAt, fixesIn, keyOf, noPage, pageIn, segmentAt, segmentEntries, segmentWord, segments}
+use Rattle.model.specs.Layout.{bit15, controlsOf, entryAt, fixesIn, keyOf, noPage, pageIn, segmentAt, segmentEntries, segmentWord, segments, vacant}
 use Rattle.model.specs.Refusals.{decodeFix, decodeFree, decodeLoad, decodePurge, decodeSettle, decodeStore, tablesRight, whereIs}
 use Rattle.model.specs.Steps.{worked}
 use Rattle.model.specs.World.{Config, GoodParts, LawfulParts, Parts, World}
@@ -117,12 +117,15 @@ pub record Fits (c : Config) : Type 0 where
   pub tables : 32 * segments c ≤ 1024 * (c .supervisor - 1)
   pub keys : (p key : ℕ) → keyOf (c .partitions) p ≡ Some key → (c .supervisor ≤ p) × (p < c .pages) × (key ≤ 15)
 
--- The frame table: a pageable frame has no page and count 0, or a partition page that no other frame has.
+-- The frame table: a pageable frame has no page and count 0, or a partition page that no other frame has; every other
+-- record is as IPL left it.
 pub record Table (c : Config) (rs : List FrameRecord) : Type 0 where
   pub long : length rs ≡ 256
   pub supervisor : (f : ℕ) → f < c .supervisor → pageIn rs f ≡ f
+  pub unfixed : (f : ℕ) → f < c .supervisor → fixesIn rs f ≡ 0
+  pub past : (f : ℕ) → c .frames ≤ f → getD rs f vacant ≡ vacant
   pub named : (f : ℕ) → Pageable c f → (pageIn rs f ≡ noPage → ⊥) → (key : ℕ) × (keyOf (c .partitions) (pageIn rs f) ≡ Some key)
-  pub vacant : (f : ℕ) → Pageable c f → pageIn rs f ≡ noPage → fixesIn rs f ≡ 0
+  pub unused : (f : ℕ) → Pageable c f → pageIn rs f ≡ noPage → fixesIn rs f ≡ 0
   pub apart : (f g : ℕ) → Pageable c f → Pageable c g → pageIn rs f ≡ pageIn rs g → (pageIn rs f ≡ noPage → ⊥) → f ≡ g
 
 -- The storage keys: a frame with a page has its access key.
