@@ -1,0 +1,15 @@
+pub mod Place
+pub mod Walks
+pub mod Find
+pub mod Own
+pub mod Fault
+pub mod Decoded
+pub mod Ready
+pub mod Kept
+pub mod Memory
+pub mod Moved
+pub mod Beside
+pub mod Answered
+pub mod Start
+pub mod Runs
+pub mod Tested
