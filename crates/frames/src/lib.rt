@@ -1,10 +1,16 @@
 // What holds the frames that can be taken for a page, and says which of them is taken.
+mod calls;
 mod keys;
+mod runs;
 
+pub use calls::Answer;
+pub use calls::Call;
 pub use keys::is_changed;
 pub use keys::is_referred;
 pub use keys::reference_off;
 pub use keys::reference_on;
+pub use runs::make;
+pub use runs::play;
 ghost use mathlib.Core.Path.{_≡_};
 ghost use Rattle.frames.specs.Policy.{Rules, Lawful, free, holds};
 
