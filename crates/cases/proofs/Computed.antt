@@ -13,7 +13,7 @@ use Rattle.cases.specs.Cases.{CaseA, CaseE, CaseF, CaseG, CaseH, Cases, emptie
 use Rattle.cases.specs.Worked.{ready}
 
 -- Names all that the machine computes with: who unfolds it unfolds that.
-opening : Unit {0}
+unfoldable pub opening : Unit {0}
 unfolding ready ipl firstFault withSegments withEntries ownPages returned load store fix free decodeLoad decodeStore decodeFix decodeFree counted foundIn framesAre half page putHalf putPage putWord word zeros blankSet marksKnown opened steps turns checked walk stored turning loaded emptied
 opening = tt
 
