@@ -27,7 +27,7 @@ case-e = record { says = refl; left = refl; entry = refl }
 
 case-f : CaseF
 unfolding opening
-case-f = record { says = refl; before = refl; turned = refl; left = refl; entry = refl }
+case-f = record { says = refl; first = refl; before = refl; turned = refl; left = refl; entry = refl }
 
 case-g : CaseG
 unfolding opening

@@ -107,6 +107,7 @@ pub record CaseE : Type 0 where
 
 pub record CaseF : Type 0 where
   pub says : said callsF stored ≡ byte 0 ∷ byte 0 ∷ byte 0 ∷ []
+  pub first : shown (after (Load 18432 1 ∷ []) stored) ≡ row 8 9 noPage 0x16 0x14 0 (4 ∷ []) [] (2 ∷ 3 ∷ [])
   pub before : shown turning ≡ row 8 9 10 0x16 0x14 0x14 [] [] (2 ∷ 3 ∷ 4 ∷ [])
   pub turned : turnsNow turning ≡ 3
   pub left : shown loaded ≡ row 8 11 10 0x12 0x14 0x10 (4 ∷ []) (2 ∷ []) (3 ∷ [])
