@@ -1,0 +1,4 @@
+pub mod Worked
+pub mod Cases
+pub mod Wirings
+pub mod Governed
