@@ -12,12 +12,12 @@ use model::shape::FrameRecord;
 
 /// A part of no bytes that owns nothing. Only of a struct that has an owner among its parts can a clause say what it
 /// is after a loan, so a struct that lends one of its elements has a `Lender`.
-pub struct Lender {
+struct Lender {
     ghost nothing: owns { ftrue },
 }
 
 impl Lender {
-    pub fn new() -> Lender {
+    fn new() -> Lender {
         Lender {}
     }
 }
