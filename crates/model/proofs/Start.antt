@@ -196,11 +196,13 @@ module _ (c : Config) (fit : Fits c) (s : List ℕ) (long : length s ≡ 2048 * 
   pub tables-kept : (j : ℕ) → (j < segmentAt 0) ⊎ (((segmentAt (segmentEntries c) ≤ j) × (j < entryAt 0)) ⊎ (entryAt (32 * segments c) ≤ j)) → getD (withTables c s) j 0 ≡ getD s j 0
   tables-kept j o =
       let m = fit .most in
-      elim o
-      [ inl a ↦ ents .kept j (inl (omega arith)) ∙ segs .kept j (inl a)
-      | inr b ↦ elim b
-        [ inl a ↦ let x = a .0 in ents .kept j (inl (a .1)) ∙ segs .kept j (inr (omega arith))
-        | inr a ↦ ents .kept j (inr (omega arith)) ∙ segs .kept j (inr (omega arith)) ] ]
+      elim o [
+        | inl a ↦ ents .kept j (inl (omega arith)) ∙ segs .kept j (inl a)
+        | inr b ↦ elim b [
+          | inl a ↦ let x = a .0 in ents .kept j (inl (a .1)) ∙ segs .kept j (inr (omega arith))
+          | inr a ↦ ents .kept j (inr (omega arith)) ∙ segs .kept j (inr (omega arith))
+        ]
+      ]
 
 -- The frame table.
 own-pages : (f n : ℕ) (rs : List FrameRecord) → f + n ≤ length rs

@@ -57,8 +57,8 @@ module _ {T P S : Type 0} (r : Parts T P S) where
         record {
           segment = a .0;
           inside = λ g gp is.
-            let same = k .table .apart g f gp (h .0) (is ∙ sym (h .1)) (λ z. real-page (w .config) (k .fits) p key part (sym is ∙ z)) in
-            omega arith;
+              let same = k .table .apart g f gp (h .0) (is ∙ sym (h .1)) (λ z. real-page (w .config) (k .fits) p key part (sym is ∙ z)) in
+              omega arith;
           outside = λ none. absurd (none f (h .0) (h .1));
           others = λ none. absurd (none f (h .0) (h .1));
         }
@@ -72,9 +72,9 @@ module _ {T P S : Type 0} (r : Parts T P S) where
           inside = λ g gp is. absurd (none g gp is);
           outside = λ _. omega arith;
           others = λ _ g gp ne.
-            let lo = gp .0 in let hi = gp .1 in let s = k .fits .some in
-            let f = frame-page (w .config) (w .storage) (w .records) g (each-frame (w .config) (w .storage) (w .records) (w .config .supervisor) (w .config .frames - w .config .supervisor) all g lo (omega arith)) ne in
-            record { segment = f .0; entry = f .1 };
+              let lo = gp .0 in let hi = gp .1 in let s = k .fits .some in
+              let f = frame-page (w .config) (w .storage) (w .records) g (each-frame (w .config) (w .storage) (w .records) (w .config .supervisor) (w .config .frames - w .config .supervisor) all g lo (omega arith)) ne in
+              record { segment = f .0; entry = f .1 };
         }
 
     right-from : (o : Option ℕ) → whereIs w p ≡ o → TablesRight (w .config) (w .storage) (w .records) p key → tablesRight w p key o ≡ true
@@ -87,7 +87,7 @@ module _ {T P S : Type 0} (r : Parts T P S) where
         let o = t .outside none in
         and-from _ _ (is-page (w .config) (w .storage) p (4 + 16 * key) (t .segment) (omega arith))
         (all-frames (w .config) (w .storage) (w .records) (w .config .supervisor) (w .config .frames - w .config .supervisor)
-          (λ g a b. frame-right g (a, let s = k .fits .some in omega arith) none))
+        (λ g a b. frame-right g (a, let s = k .fits .some in omega arith) none))
       where
         frame-right : (g : ℕ) → Pageable (w .config) g → ((f : ℕ) → Pageable (w .config) f → pageIn (w .records) f ≡ p → ⊥) → frameIs (w .config) (w .storage) (w .records) g ≡ true
         frame-right g gp none = by-page (eqb (pageIn (w .records) g) noPage) refl

@@ -115,6 +115,7 @@ pub record Fits (c : Config) : Type 0 where
   pub more : c .supervisor < c .pages
   pub most : c .pages ≤ 8192
   pub tables : 32 * segments c ≤ 1024 * (c .supervisor - 1)
+  pub ordered : partitionsFit c ≡ true
   pub keys : (p key : ℕ) → keyOf (c .partitions) p ≡ Some key → (c .supervisor ≤ p) × (p < c .pages) × (key ≤ 15)
 
 -- The frame table: a pageable frame has no page and count 0, or a partition page that no other frame has; every other

@@ -62,7 +62,15 @@ impl Partitions {
     pub fn none() -> Partitions
         ensures { λ r. ⌜ listed r ≡ [] ⌝ }
     {
-        Partitions { list: [Partition { first: 0, count: 0, key: 0 }; 5], count: 0 }
+        let held = 0;
+        Partitions {
+            list: [Partition {
+                first: 0,
+                count: 0,
+                key: 0,
+            }; 5],
+            count: held,
+        }
     }
 
     /// The access key of the partition that a page is in.

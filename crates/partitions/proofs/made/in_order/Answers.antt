@@ -11,8 +11,9 @@ returns-then-not-fits c =
 
 pub loop-partition-again : need.loop-partition-again
 loop-partition-again c = (
-    omega arith,
-    sym (order-goes (c .args .list .now) (c .loop-partition .low) (c .args .pages) (c .loop-partition .partition-index) _ (c .loop-partition-test .taken) (sym (c .if-not-fits .ensures tt))) ∙ c .loop-partition .inv .1)
+  omega arith,
+  sym (order-goes (c .args .list .now) (c .loop-partition .low) (c .args .pages) (c .loop-partition .partition-index) _ (c .loop-partition-test .taken) (sym (c .if-not-fits .ensures tt))) ∙ c .loop-partition .inv .1,
+)
 
 pub returns : need.returns
 returns c = sym (at-drop-all (λ l. inOrder (c .loop-partition .low) (c .args .pages) l) (c .args .list .now) (c .loop-partition .partition-index) (c .loop-partition-test .left)) ∙ c .loop-partition .inv .1

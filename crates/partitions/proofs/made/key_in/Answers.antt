@@ -11,8 +11,9 @@ returns-then-holds c =
 
 pub loop-partition-again : need.loop-partition-again
 loop-partition-again c = (
-    omega arith,
-    sym (key-later (c .args .list .now) (c .args .page) (c .loop-partition .partition-index) _ (c .loop-partition-test .taken) (sym (c .if-holds .ensures tt))) ∙ c .loop-partition .inv .1)
+  omega arith,
+  sym (key-later (c .args .list .now) (c .args .page) (c .loop-partition .partition-index) _ (c .loop-partition-test .taken) (sym (c .if-holds .ensures tt))) ∙ c .loop-partition .inv .1,
+)
 
 pub returns : need.returns
 returns c = sym (at-drop-all (λ l. keyOf l (c .args .page)) (c .args .list .now) (c .loop-partition .partition-index) (c .loop-partition-test .left)) ∙ c .loop-partition .inv .1
