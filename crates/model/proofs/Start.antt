@@ -84,6 +84,7 @@ fits-from c s e q =
         some = some;
         more = more;
         most = most;
+        ordered = q;
         tables = omega arith;
         keys = λ p key k. in-order (c .supervisor) (c .pages) (c .partitions) p key parts k;
       },
