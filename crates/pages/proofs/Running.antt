@@ -20,7 +20,7 @@ use Rattle.pages.specs.declared.fault.Fault.{Fault}
 use Rattle.pages.specs.declared.fault.StoreRefusal.{StoreRefusal}
 use Rattle.pages.specs.declared.fault.StoreRefusal.the-variants.{WrongLength, NoSuchSlot, BadSlot}
 use Rattle.pages.specs.Store.{Rules, Lawful, refusalAt, told, readInto, written, Usable}
-use Rattle.pages.specs.Runs.{stepOf, runOf, writes, later, lastWritten, Kept}
+use Rattle.pages.specs.Runs.{stepOf, runOf, bufferOf, runBuffer, writes, later, lastWritten, Kept}
 use Rattle.pages.proofs.Refusals.{none-usable, unrefused, some-none}
 
 -- What one call leaves.
@@ -101,6 +101,19 @@ turn r cs i c m m′ all h e s inv =
 pub done : {M : Type 0} (r : Rules M) (cs : List Call) (i : ℕ) (m all : M) → length cs ≤ i → runOf r (drop i cs) m ≡ all → m ≡ all
 done r cs i m all h inv = sym (at-drop-all (λ l. runOf r l m) cs i h) ∙ inv
 
+-- The same of the buffer.
+pub turn-buffer : {M : Type 0} (r : Rules M) (cs : List Call) (i : ℕ) (c : Call) (m m′ : M) (b b′ all : List ℕ) → i < length cs
+    → c ≡ getD cs i c → m′ ≡ stepOf r c m → b′ ≡ bufferOf r c m b → runBuffer r (drop i cs) m b ≡ all
+    → runBuffer r (drop (i + 1) cs) m′ b′ ≡ all
+turn-buffer r cs i c m m′ b b′ all h e s t inv =
+    ap (λ x. runBuffer r (drop (i + 1) cs) x b′) (s ∙ ap (λ x. stepOf r x m) e)
+    ∙ ap (runBuffer r (drop (i + 1) cs) (stepOf r (getD cs i c) m)) (t ∙ ap (λ x. bufferOf r x m b) e)
+    ∙ sym (at-drop-more (λ l. runBuffer r l m b) cs i c h) ∙ inv
+
+pub done-buffer : {M : Type 0} (r : Rules M) (cs : List Call) (i : ℕ) (m : M) (b all : List ℕ) → length cs ≤ i
+    → runBuffer r (drop i cs) m b ≡ all → b ≡ all
+done-buffer r cs i m b all h inv = sym (at-drop-all (λ l. runBuffer r l m b) cs i h) ∙ inv
+
 -- A read after a run, into a buffer of n bytes.
 module _ {M : Type 0} (r : Rules M) (cs : List Call) (m m′ : M) (kept : Kept r cs m m′) (k : ℕ) (buffer : List ℕ) (n : ℕ)
     (long : length buffer ≡ n) where
@@ -113,6 +126,9 @@ module _ {M : Type 0} (r : Rules M) (cs : List Call) (m m′ : M) (kept : Kept r
 
   pub told-after : (x : Result (Unit {0}) Fault) → x ≡ told r m′ k (refusalAt r m′ k (length buffer)) → x ≡ told r m′ k (refusalAt r m k n)
   told-after x e = e ∙ ap (told r m′ k) same-refusal
+
+  pub read-after : (l : List ℕ) → l ≡ readInto r m′ k buffer (refusalAt r m′ k (length buffer)) → l ≡ readInto r m′ k buffer (refusalAt r m k n)
+  read-after l e = e ∙ ap (readInto r m′ k buffer) same-refusal
 
   pub read-last : (l : List ℕ) → l ≡ readInto r m′ k buffer (refusalAt r m′ k (length buffer)) → refusalAt r m k n ≡ None
       → l ≡ valueOr (lastWritten cs k) (r .slot m k)

@@ -11,7 +11,7 @@ use Rattle.std.specs.declared.option.Option.{Option}
 use Rattle.std.specs.declared.option.Option.the-variants.{Some, None}
 use Rattle.pages.specs.declared.call.Call.{Call}
 use Rattle.pages.specs.declared.call.Call.the-variants.{Read, Write}
-use Rattle.pages.specs.Store.{Rules, refusalAt, written, Usable}
+use Rattle.pages.specs.Store.{Rules, refusalAt, readInto, written, Usable}
 
 -- The store that a call leaves, by the rules of its kind.
 abbrev pub stepOf : {M : Type 0} → Rules M → Call → M → M
@@ -21,6 +21,15 @@ stepOf r (Write k page) m = written r m k (vec-items page) (refusalAt r m k (len
 abbrev pub runOf : {M : Type 0} → Rules M → List Call → M → M
 runOf r [] m = m
 runOf r (c ∷ cs) m = runOf r cs (stepOf r c m)
+
+-- The buffer that a call leaves: an answered read's slot, and any other call's as it was.
+abbrev pub bufferOf : {M : Type 0} → Rules M → Call → M → List ℕ → List ℕ
+bufferOf r (Read k) m buffer = readInto r m k buffer (refusalAt r m k (length buffer))
+bufferOf r (Write k page) m buffer = buffer
+
+abbrev pub runBuffer : {M : Type 0} → Rules M → List Call → M → List ℕ → List ℕ
+runBuffer r [] m buffer = buffer
+runBuffer r (c ∷ cs) m buffer = runBuffer r cs (stepOf r c m) (bufferOf r c m buffer)
 
 -- The page that a call writes to a slot: none unless it has 2,048 bytes.
 abbrev pub writes : Call → ℕ → Option (List ℕ)

@@ -3,8 +3,8 @@ ghost use mathlib.Core.Path.{_≡_};
 ghost use lib.ListN.{length};
 ghost use Rattle.std.specs.Options.{valueOr};
 ghost use Rattle.std.specs.declared.option.Option.the-variants.{None};
-ghost use Rattle.pages.specs.Runs.{Kept, lastWritten, runOf, stepOf};
-ghost use Rattle.pages.specs.Store.{refusalAt, told};
+ghost use Rattle.pages.specs.Runs.{Kept, bufferOf, lastWritten, runBuffer, runOf, stepOf};
+ghost use Rattle.pages.specs.Store.{readInto, refusalAt, told};
 use crate::call::Call;
 use crate::fault::Fault;
 use crate::store::PageStore;
@@ -12,6 +12,7 @@ use crate::store::PageStore;
 /// Makes the calls one after another; each read copies its slot into `page`.
 pub fn work<S: PageStore>(store: &mut S, calls: &[Call], page: &mut [u8])
     ensures after { λ _. ⌜ S·PageStore .model (now (store .exit)) ≡ runOf (S·PageStore .rules) (now (calls .entry)) (S·PageStore .model (now (store .entry))) ⌝ }
+    ensures buffer { λ _. ⌜ now (page .exit) ≡ runBuffer (S·PageStore .rules) (now (calls .entry)) (S·PageStore .model (now (store .entry))) (now (page .entry)) ⌝ }
     ensures kept { λ _. ⌜ Kept (S·PageStore .rules) (now (calls .entry)) (S·PageStore .model (now (store .entry))) (S·PageStore .model (now (store .exit))) ⌝ }
 {
     for call in calls {
@@ -21,7 +22,8 @@ pub fn work<S: PageStore>(store: &mut S, calls: &[Call], page: &mut [u8])
 
 /// Makes one call, whatever it answers.
 fn make<S: PageStore>(store: &mut S, call: &Call, page: &mut [u8])
-    ensures { λ _. ⌜ S·PageStore .model (now (store .exit)) ≡ stepOf (S·PageStore .rules) (now (call .entry)) (S·PageStore .model (now (store .entry))) ⌝ }
+    ensures after { λ _. ⌜ S·PageStore .model (now (store .exit)) ≡ stepOf (S·PageStore .rules) (now (call .entry)) (S·PageStore .model (now (store .entry))) ⌝ }
+    ensures buffer { λ _. ⌜ now (page .exit) ≡ bufferOf (S·PageStore .rules) (now (call .entry)) (S·PageStore .model (now (store .entry))) (now (page .entry)) ⌝ }
 {
     match call {
         Call::Read { slot } => {
@@ -42,6 +44,7 @@ pub fn read_after<S: PageStore>(
 ) -> Result<(), Fault>
     ensures kept { λ _. ⌜ Kept (S·PageStore .rules) (now (calls .entry)) (S·PageStore .model (now (store .entry))) (S·PageStore .model (now (store .exit))) ⌝ }
     ensures answer { λ r. ⌜ r ≡ told (S·PageStore .rules) (S·PageStore .model (now (store .exit))) slot (refusalAt (S·PageStore .rules) (S·PageStore .model (now (store .entry))) slot (length (now (page .entry)))) ⌝ }
+    ensures buffer { λ _. ⌜ now (page .exit) ≡ readInto (S·PageStore .rules) (S·PageStore .model (now (store .exit))) slot (runBuffer (S·PageStore .rules) (now (calls .entry)) (S·PageStore .model (now (store .entry))) (now (page .entry))) (refusalAt (S·PageStore .rules) (S·PageStore .model (now (store .entry))) slot (length (now (page .entry)))) ⌝ }
     ensures reads { λ _. ⌜ (refusalAt (S·PageStore .rules) (S·PageStore .model (now (store .entry))) slot (length (now (page .entry))) ≡ None → now (page .exit) ≡ valueOr (lastWritten (now (calls .entry)) slot) (S·PageStore .rules .slot (S·PageStore .model (now (store .entry))) slot)) ⌝ }
 {
     work(store, calls, page);
