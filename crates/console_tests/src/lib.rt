@@ -1,4 +1,5 @@
 //! Examples of scripts and of boards, in a crate of their own so that theirs are proved once.
+#![tactic(auto)]
 #[cfg(test)]
 mod boards;
 #[cfg(test)]

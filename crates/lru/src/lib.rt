@@ -1,4 +1,5 @@
 // A frame policy that takes the frame whose last use is longest ago.
+#![tactic(auto)]
 mod list;
 mod policy;
 

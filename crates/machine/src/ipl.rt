@@ -1,7 +1,7 @@
 //! IPL.
 ghost use Rattle.std.specs.Prelude.{◌≡◌, ℕ, ◌-◌, List, OnErr};
 ghost use Rattle.layout.specs.Config.{config_of};
-ghost use Rattle.model.specs.Ipl.{first_fault, fresh, ipl as iplRule, returned};
+ghost use Rattle.model.specs.Ipl.{first_fault, fresh, ipl as ipl_rule, returned};
 ghost use Rattle.machine.specs.Machine.{Does, rules, unstarted, world};
 
 use crate::Machine;
@@ -76,7 +76,7 @@ impl<T: Translator, P: Policy, S: PageStore> Machine<T, P, S> {
         pages: u32,
         partitions: &[Partition],
     ) -> Result<(), IplRefusal>
-        ensures rule { Does T.Translator P.Policy S.PageStore (λ q w. iplRule q (record { frames = frames; supervisor = supervisor; pages = pages; partitions = partitions.now }) w) result (world T.Translator P.Policy S.PageStore self.old storage.old) (world T.Translator P.Policy S.PageStore self.new storage.new) }
+        ensures rule { Does T.Translator P.Policy S.PageStore (λ q w. ipl_rule q (record { frames = frames; supervisor = supervisor; pages = pages; partitions = partitions.now }) w) result (world T.Translator P.Policy S.PageStore self.old storage.old) (world T.Translator P.Policy S.PageStore self.new storage.new) }
         ensures refused { OnErr result (world T.Translator P.Policy S.PageStore self.new storage.new ≡ world T.Translator P.Policy S.PageStore self.old storage.old) }
     {
         let layout = Layout::checked(frames, supervisor, pages, partitions, storage)?;

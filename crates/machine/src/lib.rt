@@ -9,6 +9,7 @@
 //! machine.ipl(&mut storage, 5, 2, 33, &partitions)?;
 //! machine.store(&mut storage, 16384, 1, 7)?;
 //! ```
+#![tactic(auto)]
 mod calls;
 mod frame;
 mod ipl;

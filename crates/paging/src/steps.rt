@@ -1,10 +1,10 @@
 //! The four steps of a page fault.
 ghost use Rattle.std.specs.Prelude.{◌≡◌, ℕ, ◌-◌, ◌*◌, true, List, slice_index};
 ghost use Rattle.frames.specs.Keys.{changed};
-ghost use Rattle.model.specs.Steps.{chosen, connected, emptied as emptiedBy, emptying, filled as filledBy, put_out, read_in, taken as takenBy, taken_frame};
+ghost use Rattle.model.specs.Steps.{chosen, connected, emptied as emptied_by, emptying, filled as filled_by, put_out, read_in, taken as taken_by, taken_frame};
 ghost use Rattle.paging.specs.Seen.{access_for, rules_of, seen, with_store};
 ghost use Rattle.state.specs.Bare.{config_in};
-ghost use Rattle.storage.specs.Bytes.{frame as frameBytes, put_frame};
+ghost use Rattle.storage.specs.Bytes.{frame as frame_bytes, put_frame};
 
 use crate::Own;
 use frames::{Policy, is_changed};
@@ -43,7 +43,7 @@ impl<T: Translator, P: Policy, S: PageStore> Own<T, P, S> {
     pub(crate) fn take(&mut self, page: u16) -> Taken
         ensures frame { (s : List ℕ) → result.frame ≡ taken_frame (rules_of T.Translator P.Policy S.PageStore) (seen T.Translator P.Policy S.PageStore self.old s) }
         ensures page { result.page ≡ page }
-        ensures rule { (s : List ℕ) → seen T.Translator P.Policy S.PageStore self.new s ≡ takenBy (rules_of T.Translator P.Policy S.PageStore) (seen T.Translator P.Policy S.PageStore self.old s) }
+        ensures rule { (s : List ℕ) → seen T.Translator P.Policy S.PageStore self.new s ≡ taken_by (rules_of T.Translator P.Policy S.PageStore) (seen T.Translator P.Policy S.PageStore self.old s) }
     {
         let supervisor = self.state.layout().supervisor() as u8;
         let frames = self.state.layout().frames();
@@ -53,7 +53,7 @@ impl<T: Translator, P: Policy, S: PageStore> Own<T, P, S> {
 
     // Puts the bytes of a frame out to the slot of a page.
     pub fn put_out(&mut self, storage: &[u8], frame: u8, of: u16)
-        ensures { seen T.Translator P.Policy S.PageStore self.new storage.now ≡ with_store (seen T.Translator P.Policy S.PageStore self.old storage.now) (put_out S.PageStore.rules (S.PageStore.model self.old.store) (of - (config_in self.old.state).supervisor) (frameBytes storage.now frame)) }
+        ensures { seen T.Translator P.Policy S.PageStore self.new storage.now ≡ with_store (seen T.Translator P.Policy S.PageStore self.old storage.now) (put_out S.PageStore.rules (S.PageStore.model self.old.store) (of - (config_in self.old.state).supervisor) (frame_bytes storage.now frame)) }
     {
         let slot = self.slot(of);
         if let Some(bytes) = page(storage, place(frame)) {
@@ -81,7 +81,7 @@ impl<T: Translator, P: Policy, S: PageStore> Own<T, P, S> {
     // Emptied: the page that the frame has, if it has one, is vacated.
     pub(crate) fn empty(&mut self, storage: &mut [u8], taken: Taken) -> Emptied
         ensures same { (result.frame ≡ taken.frame) × (result.page ≡ taken.page) }
-        ensures rule { seen T.Translator P.Policy S.PageStore self.new storage.new ≡ emptiedBy (rules_of T.Translator P.Policy S.PageStore) taken.frame (seen T.Translator P.Policy S.PageStore self.old storage.old) }
+        ensures rule { seen T.Translator P.Policy S.PageStore self.new storage.new ≡ emptied_by (rules_of T.Translator P.Policy S.PageStore) taken.frame (seen T.Translator P.Policy S.PageStore self.old storage.old) }
     {
         let old = self.state.record(taken.frame()).page;
         if old != 0xFFFF {
@@ -92,7 +92,7 @@ impl<T: Translator, P: Policy, S: PageStore> Own<T, P, S> {
 
     // Reads the slot of a page into a frame.
     fn read_in(&self, storage: &mut [u8], frame: u8, of: u16)
-        ensures { storage.new ≡ put_frame storage.old frame (read_in S.PageStore.rules (S.PageStore.model self.now.store) (of - (config_in self.now.state).supervisor) (frameBytes storage.old frame)) }
+        ensures { storage.new ≡ put_frame storage.old frame (read_in S.PageStore.rules (S.PageStore.model self.now.store) (of - (config_in self.now.state).supervisor) (frame_bytes storage.old frame)) }
     {
         let at = place(frame);
         if holds(storage, at, PAGE) {
@@ -104,7 +104,7 @@ impl<T: Translator, P: Policy, S: PageStore> Own<T, P, S> {
     // Filled: the page's slot is read into the frame, or zeros where it was never written out.
     pub(crate) fn fill(&self, storage: &mut [u8], emptied: Emptied) -> Filled
         ensures same { (result.frame ≡ emptied.frame) × (result.page ≡ emptied.page) }
-        ensures rule { seen T.Translator P.Policy S.PageStore self.now storage.new ≡ filledBy (rules_of T.Translator P.Policy S.PageStore) emptied.frame emptied.page (seen T.Translator P.Policy S.PageStore self.now storage.old) }
+        ensures rule { seen T.Translator P.Policy S.PageStore self.now storage.new ≡ filled_by (rules_of T.Translator P.Policy S.PageStore) emptied.frame emptied.page (seen T.Translator P.Policy S.PageStore self.now storage.old) }
     {
         if never_written(storage, emptied.page()) == 1 {
             let _ = clear_page(storage, place(emptied.frame()));

@@ -1,4 +1,5 @@
 // The frame policy of five queues.
+#![tactic(auto)]
 mod chain;
 mod five;
 mod moves;

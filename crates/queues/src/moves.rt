@@ -2,7 +2,7 @@ ghost use Rattle.std.specs.Prelude.{◌≡◌, ℕ, ◌+◌, ◌%◌, ◌<◌, B
 ghost use Rattle.frames.specs.Keys.{referred, changed};
 ghost use Rattle.queues.specs.Five.{empty, times_held, size, dropped, on, turned, step as step_of, taken};
 ghost use Rattle.queues.specs.Laws.{TakeLaws};
-ghost use Rattle.queues.specs.Five.{seen_q00 as seenFirst, seen_q01 as seenSecond, marked_off as markedOff};
+ghost use Rattle.queues.specs.Five.{seen_q00 as seen_first, seen_q01 as seen_second, marked_off as turned_off};
 ghost use Rattle.queues.specs.Model.{model_of};
 ghost use Rattle.queues.specs.Names.{number_of, frames_of, head_of};
 
@@ -116,9 +116,9 @@ impl FiveQueues {
 
     // Looks at the head of Q00: with reference and change bit off it is taken, else it goes to the tail of Q01, Q10 or Q11.
     fn look_first(&mut self, keys: &mut [u8; 256], frame: u8) -> Option<u8>
-        ensures answer { result ≡ (seenFirst (referred (slice_index keys.old frame)) (changed (slice_index keys.old frame)) (model_of self.old) keys.old frame).frame }
-        ensures marks { keys.new ≡ (seenFirst (referred (slice_index keys.old frame)) (changed (slice_index keys.old frame)) (model_of self.old) keys.old frame).keys }
-        ensures after { model_of self.new ≡ (seenFirst (referred (slice_index keys.old frame)) (changed (slice_index keys.old frame)) (model_of self.old) keys.old frame).left }
+        ensures answer { result ≡ (seen_first (referred (slice_index keys.old frame)) (changed (slice_index keys.old frame)) (model_of self.old) keys.old frame).frame }
+        ensures marks { keys.new ≡ (seen_first (referred (slice_index keys.old frame)) (changed (slice_index keys.old frame)) (model_of self.old) keys.old frame).keys }
+        ensures after { model_of self.new ≡ (seen_first (referred (slice_index keys.old frame)) (changed (slice_index keys.old frame)) (model_of self.old) keys.old frame).left }
     {
         match note(keys, frame) {
             (false, false) => {
@@ -142,9 +142,9 @@ impl FiveQueues {
 
     // Looks at the head of Q01: with the reference bit off it is taken, else it goes to the tail of Q11.
     fn look_second(&mut self, keys: &mut [u8; 256], frame: u8) -> Option<u8>
-        ensures answer { result ≡ (seenSecond (referred (slice_index keys.old frame)) (model_of self.old) keys.old frame).frame }
-        ensures marks { keys.new ≡ (seenSecond (referred (slice_index keys.old frame)) (model_of self.old) keys.old frame).keys }
-        ensures after { model_of self.new ≡ (seenSecond (referred (slice_index keys.old frame)) (model_of self.old) keys.old frame).left }
+        ensures answer { result ≡ (seen_second (referred (slice_index keys.old frame)) (model_of self.old) keys.old frame).frame }
+        ensures marks { keys.new ≡ (seen_second (referred (slice_index keys.old frame)) (model_of self.old) keys.old frame).keys }
+        ensures after { model_of self.new ≡ (seen_second (referred (slice_index keys.old frame)) (model_of self.old) keys.old frame).left }
     {
         match note(keys, frame) {
             (false, _) => {
@@ -215,7 +215,7 @@ impl FiveQueues {
 fn note(keys: &mut [u8; 256], frame: u8) -> (bool, bool)
     ensures reference { result.0 ≡ referred (slice_index keys.old frame) }
     ensures change { result.1 ≡ changed (slice_index keys.old frame) }
-    ensures marks { keys.new ≡ markedOff keys.old frame }
+    ensures marks { keys.new ≡ turned_off keys.old frame }
 {
     let key = keys[frame as usize];
     keys[frame as usize] = frames::reference_off(key);

@@ -1,5 +1,7 @@
 // A recency list: the elements in the order of their use, the one used last at the end. It stands in the front part of
 // an array, or in a slice that is all of it, and serves every kind of element that can state its key.
+#![tactic(auto)]
+
 ghost use Rattle.std.specs.Prelude.{◌≡◌, ℕ, ◌+◌, ◌<◌, min, length, take, drop, IfSome, nat_lt};
 ghost use Rattle.std.specs.List.{remove};
 ghost use Rattle.recency.specs.Places.{place_of, at_end, put_last};
@@ -7,7 +9,7 @@ ghost use Rattle.recency.specs.Places.{place_of, at_end, put_last};
 // What can state its key.
 pub trait Keyed {
     // the key
-    ghost keyOf: { Self → ℕ };
+    ghost key_of: { Self → ℕ };
 
     fn key(&self) -> u32
         ensures { result ≡ key_of self.now };

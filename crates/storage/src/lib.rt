@@ -4,6 +4,8 @@
 //! Each access says by its answer whether what it names stands wholly in storage. What it reads and leaves is given by the
 //! definitions of `specs/Bytes.antt`; what a read gives over a write, by the laws of `specs/Laws.antt`, so that nothing
 //! above this crate reasons about parts of lists.
+#![tactic(auto)]
+
 ghost use Rattle.std.specs.Prelude.{◌≡◌, ◌&&◌, length, if◌then◌else◌, ◌==◌, slice_index, slice_set};
 ghost use Rattle.std.specs.Option.{option_map};
 ghost use Rattle.storage.specs.Bytes.{fits, half, half_at, page, page_at, put_half, put_page, put_word, word, word_at, zeros};
