@@ -12,5 +12,5 @@ returns-then-place-count g c = record {
 pub returns : goal.returns
 returns g c = record {
   answer = sym (lt-ltb c.args.place (length c.args.list.now) c.if-place-count.false);
-  after = turned c.args.list.now _ c.args.place _ refl c.if-place-count.false c.rotate-left.ensures.after;
+  after = turned c.args.list.now _ c.args.place _ refl c.if-place-count.false c.rotate_left.ensures.after;
 }

@@ -13,6 +13,6 @@ returns-then-held-count g c = record {
 pub returns : goal.returns
 returns g c = record {
   count = omega arith;
-  front = put_over c.args.room.now _ c.args.held c.args.element c.if-held-count.false (omega (arith, c.if-count-eq0.false)) c.rotate-left.ensures.after;
+  front = put_over c.args.room.now _ c.args.held c.args.element c.if-held-count.false (omega (arith, c.if-count-eq0.false)) c.rotate_left.ensures.after;
   behind = search (rules, drop_all, length-set);
 }

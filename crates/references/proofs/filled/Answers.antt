@@ -5,8 +5,8 @@ use Rattle.references.proofs.filled.Goals as goal
 
 pub loop-frame-preserved : goal.loop-frame-preserved
 loop-frame-preserved g c =
-    returned_more g.P.Policy.rules (g.P.Policy.model c.args.policy) (g.P.Policy.model c.loop-frame.policy) (g.P.Policy.model c.return-frame.new.self)
-    c.loop-frame.frame (omega arith) c.loop-frame.invariant c.return-frame.ensures.after
+    returned_more g.P.Policy.rules (g.P.Policy.model c.args.policy) (g.P.Policy.model c.loop-frame.policy) (g.P.Policy.model c.return_frame.new.self)
+    c.loop-frame.frame (omega arith) c.loop-frame.invariant c.return_frame.ensures.after
 
 pub returns : goal.returns
 returns g c =

@@ -10,7 +10,7 @@ returns c =
     let m = c.args.self.now.area.items in
     let k = c.args.slot in
     let buffer = c.args.page.now in
-    let none = answered plain_rules m k (refusal_at plain_rules m k (length buffer)) c.in-ok-check.ensures in
-    let page = copied m c.deref.result.now c.copy-from-slice.new.self k c.place-at.result
-    c.place-at.ensures c.deref.ensures.value c.copy-from-slice.ensures.after in
+    let none = answered plain_rules m k (refusal_at plain_rules m k (length buffer)) c.in_ok-check.ensures in
+    let page = copied m c.deref.result.now c.copy_from_slice.new.self k c.place-at.result
+    c.place-at.ensures c.deref.ensures.value c.copy_from_slice.ensures.after in
     record { answer = told_done plain_rules m k buffer none; after = read_done plain_rules m k buffer none _ page }

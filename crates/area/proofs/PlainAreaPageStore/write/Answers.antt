@@ -10,8 +10,8 @@ returns c =
     let v = c.args.self.now.area in
     let k = c.args.slot in
     let p = c.args.page.now in
-    let none = answered plain_rules v.items k (refusal_at plain_rules v.items k (length p)) c.in-ok-check.ensures in
+    let none = answered plain_rules v.items k (refusal_at plain_rules v.items k (length p)) c.in_ok-check.ensures in
     let u = none_usable plain_rules v.items k (length p) none in
-    let put = stored v k c.place-at.result p c.deref-mut.result.now c.copy-from-slice.new.self u.1.0 u.0
-    c.place-at.ensures c.deref-mut.ensures.value c.copy-from-slice.ensures.after in
+    let put = stored v k c.place-at.result p c.deref_mut.result.now c.copy_from_slice.new.self u.1.0 u.0
+    c.place-at.ensures c.deref_mut.ensures.value c.copy_from_slice.ensures.after in
     record { answer = told_done plain_rules v.items k p none; after = write_done plain_rules v.items k p none _ put }

@@ -13,22 +13,22 @@ returns-then-size-ne-PAGE c =
     other_size c.args.area.now c.in-Some.size c.in-Some-word.slots c.in-Some.ensures c.in-Some-word.ensures
     c.if-size-ne-PAGE.true
 
-pub returns-then-slots-gt-MOST-SLOTS : goal.returns-then-slots-gt-MOST-SLOTS
-returns-then-slots-gt-MOST-SLOTS c =
+pub returns-then-slots-gt-MOST_SLOTS : goal.returns-then-slots-gt-MOST_SLOTS
+returns-then-slots-gt-MOST_SLOTS c =
     too_many c.args.area.now c.in-Some.size c.in-Some-word.slots c.in-Some.ensures c.in-Some-word.ensures
-    c.if-size-ne-PAGE.false c.if-slots-gt-MOST-SLOTS.true
+    c.if-size-ne-PAGE.false c.if-slots-gt-MOST_SLOTS.true
 
 pub returns-then-area-count : goal.returns-then-area-count
 returns-then-area-count c =
     other_length c.args.area.now c.in-Some.size c.in-Some-word.slots c.in-Some.ensures c.in-Some-word.ensures
-    c.if-size-ne-PAGE.false c.if-slots-gt-MOST-SLOTS.false (λ e. omega arith)
+    c.if-size-ne-PAGE.false c.if-slots-gt-MOST_SLOTS.false (λ e. omega arith)
 
-pub returns-then-not-marks-known : goal.returns-then-not-marks-known
-returns-then-not-marks-known c =
+pub returns-then-not-marks_known : goal.returns-then-not-marks_known
+returns-then-not-marks_known c =
     last_test c.args.area.now c.in-Some.size c.in-Some-word.slots c.in-Some.ensures c.in-Some-word.ensures
-    c.if-size-ne-PAGE.false c.if-slots-gt-MOST-SLOTS.false c.if-area-count.false false c.if-not-marks-known.ensures
+    c.if-size-ne-PAGE.false c.if-slots-gt-MOST_SLOTS.false c.if-area-count.false false c.if-not-marks_known.ensures
 
 pub returns : goal.returns
 returns c =
     last_test c.args.area.now c.in-Some.size c.in-Some-word.slots c.in-Some.ensures c.in-Some-word.ensures
-    c.if-size-ne-PAGE.false c.if-slots-gt-MOST-SLOTS.false c.if-area-count.false true c.if-not-marks-known.ensures
+    c.if-size-ne-PAGE.false c.if-slots-gt-MOST_SLOTS.false c.if-area-count.false true c.if-not-marks_known.ensures

@@ -6,18 +6,18 @@ use Rattle.listing.proofs.hexadecimal.hex_text.Goals as goal
 
 pub loop-b-preserved : goal.loop-b-preserved
 loop-b-preserved c =
-    let high : c.hex-digit.result < 128 = search rules in
-    let low : c.hex-digit-in-loop-b.result < 128 = search rules in
-    let first = c.in-ok-push.ensures.bytes in
+    let high : c.hex_digit.result < 128 = search rules in
+    let low : c.hex_digit-in-loop-b.result < 128 = search rules in
+    let first = c.in_ok-push.ensures.bytes in
     let first_is = c.push.ensures.ascii high in
-    let second = c.in-ok-push-2.ensures.bytes in
+    let second = c.in_ok-push-2.ensures.bytes in
     let second_is = c.push-in-loop-b.ensures.ascii low in
     let left : hex_of (drop c.loop-b.b-index c.args.bytes.now)
     ≡ hex_digit (get_or c.args.bytes.now c.loop-b.b-index 0 / 16) ∷ hex_digit (get_or c.args.bytes.now c.loop-b.b-index 0 % 16)
     ∷ hex_of (drop (c.loop-b.b-index + 1) c.args.bytes.now)
     = at_drop_more hex_of c.args.bytes.now c.loop-b.b-index 0 (omega arith) in
     let both = two_more (string_bytes c.loop-b.text) (hex_of (drop (c.loop-b.b-index + 1) c.args.bytes.now))
-    c.hex-digit.result c.hex-digit-in-loop-b.result in
+    c.hex_digit.result c.hex_digit-in-loop-b.result in
     cc
 
 pub returns : goal.returns

@@ -8,8 +8,8 @@ use Rattle.runs.proofs.disturbed.hand_all.Goals as goal
 pub loop-handed-init : goal.loop-handed-init
 loop-handed-init g c = (omega arith, omega arith, refl, record { answers = refl; storages = refl; last = λ s. refl })
 
-pub push-reserved-requires : goal.push-reserved-requires
-push-reserved-requires g c = omega (arith, c.loop-handed.invariant.1)
+pub push_reserved-requires : goal.push_reserved-requires
+push_reserved-requires g c = omega (arith, c.loop-handed.invariant.1)
 
 pub loop-handed-preserved : goal.loop-handed-preserved
 loop-handed-preserved g c =
@@ -20,16 +20,16 @@ loop-handed-preserved g c =
     let same = c.loop-handed.invariant.2 in
     let there : i < length calls = (let k = c.loop-handed.auto.calls in let t = c.loop-handed-test.true in omega arith) in
     let left = c.make-answer.new.storage in
-    let long : length left ≡ (get_or calls i d).storage.len = c.make-answer.auto.storage ∙ c.deref-mut.ensures.len in
+    let long : length left ≡ (get_or calls i d).storage.len = c.make-answer.auto.storage ∙ c.deref_mut.ensures.len in
     let at = world g.T.Translator g.P.Policy g.S.PageStore c.loop-handed.machine in
-    let step = c.make-answer.ensures ∙ ap (λ s. worked r (get_or calls i d).call (at s)) c.deref-mut.ensures.value
+    let step = c.make-answer.ensures ∙ ap (λ s. worked r (get_or calls i d).call (at s)) c.deref_mut.ensures.value
     ∙ ap (λ (x : Handed). worked r x.call (at (vec_items x.storage))) (here calls c.args.calls.now i d left there same) in
     let count = length-set calls i (new calls c.args.calls.now i d left there same) in (
       omega arith,
       omega (arith, c.loop-handed.invariant.1),
       behind calls c.args.calls.now i d left there same,
       one_more r c.args.calls.now i d (let k = c.loop-handed.auto.calls in omega arith) (at []) (world g.T.Translator g.P.Policy g.S.PageStore c.make-answer.new.machine left) _ c.make-answer.result step
-          _ _ _ _ _ _ c.push-reserved.ensures.items (longer calls c.args.calls.now i d left there same long) c.loop-handed.invariant.3,
+          _ _ _ _ _ _ c.push_reserved.ensures.items (longer calls c.args.calls.now i d left there same long) c.loop-handed.invariant.3,
     )
 
 pub returns : goal.returns

@@ -6,14 +6,14 @@ use Rattle.runs.proofs.whole.make_all.Goals as goal
 pub loop-call-init : goal.loop-call-init
 loop-call-init g c = (omega arith, omega arith, record { answers = refl; last = refl })
 
-pub push-reserved-requires : goal.push-reserved-requires
-push-reserved-requires g c = omega (arith, c.loop-call.invariant.1)
+pub push_reserved-requires : goal.push_reserved-requires
+push_reserved-requires g c = omega (arith, c.loop-call.invariant.1)
 
 pub loop-call-preserved : goal.loop-call-preserved
 loop-call-preserved g c = (
   omega arith,
   omega (arith, c.loop-call.invariant.1),
-  one_more (rules g.T.Translator g.P.Policy g.S.PageStore) c.args.calls.now c.loop-call.call-index _ _ _ _ _ _ _ _ c.loop-call-test.true c.make-answer.ensures c.push-reserved.ensures.items c.loop-call.invariant.2,
+  one_more (rules g.T.Translator g.P.Policy g.S.PageStore) c.args.calls.now c.loop-call.call-index _ _ _ _ _ _ _ _ c.loop-call-test.true c.make-answer.ensures c.push_reserved.ensures.items c.loop-call.invariant.2,
 )
 
 pub returns : goal.returns

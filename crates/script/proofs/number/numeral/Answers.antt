@@ -13,8 +13,8 @@ loop-c-preserved c = (
   below_more _ _ c.loop-c.invariant.1 (omega arith),
 )
 
-pub returns-else-is-empty : goal.returns-else-is-empty
-returns-else-is-empty c = (
+pub returns-else-is_empty : goal.returns-else-is_empty
+returns-else-is_empty c = (
   record { some = search rules; digits = λ k h. c.loop-c.invariant.1 k (omega arith) },
   c.loop-c.invariant.0
       ∙ ap (λ x. min (value_of c.args.base x) (2 ^ 32)) (take_all c.loop-c.c-index c.args.text.now (omega arith)),

@@ -9,12 +9,12 @@ returns g c =
     let s = c.args.storage.now in
     let m = g.T.Translator.model c.args.translator.now in
     let asks = c.args.asks.now in
-    let told = c.in-ok-answer-each.ensures.told in
-    let after = c.in-ok-answer-each.ensures.after in
-    let begun = c.start-run.ensures in
+    let told = c.in_ok-answer_each.ensures.told in
+    let after = c.in_ok-answer_each.ensures.after in
+    let begun = c.start_run.ensures in
     let fresh = c.new-told.ensures.items in
     record {
-      walked = told ∙ ap (λ l. l ++ answers r s (g.T.Translator.model c.start-run.new.translator) asks) fresh ∙ ap (λ n. answers r s n asks) begun
+      walked = told ∙ ap (λ l. l ++ answers r s (g.T.Translator.model c.start_run.new.translator) asks) fresh ∙ ap (λ n. answers r s n asks) begun
           ∙ run_walked r g.met.T.Translator.lawful s m (g.met.T.Translator.valid c.args.translator.now) c.args.start asks;
       after = after ∙ ap (λ n. last_of r s n asks) begun;
     }

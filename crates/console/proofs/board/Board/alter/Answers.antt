@@ -12,8 +12,8 @@ returns-then-altered c =
     let long : length c.altered.new.storage ≡ vec_len c.args.self.now.storage = search rules in
     let e = with_items_is c.args.self.now.storage c.altered.new.storage long in
     record {
-      answer = ap alter_answer (c.if-altered.ensures.answer ∙ ap (λ x. fits (length c.args.bytes.now) x c.args.address) c.deref-mut.ensures.value);
-      after = then_when _ _ _ _ _ _ c.deref-mut.ensures.value e c.if-altered.ensures.answer c.if-altered.ensures.after;
+      answer = ap alter_answer (c.if-altered.ensures.answer ∙ ap (λ x. fits (length c.args.bytes.now) x c.args.address) c.deref_mut.ensures.value);
+      after = then_when _ _ _ _ _ _ c.deref_mut.ensures.value e c.if-altered.ensures.answer c.if-altered.ensures.after;
       kept = (refl, refl);
     }
 
@@ -23,7 +23,7 @@ returns-else-altered c =
     let e = with_items_is c.args.self.now.storage c.altered.new.storage long in
     record {
       answer = ap (Refused Verb.Alter) c.number.ensures
-          ∙ ap alter_answer (c.if-altered.ensures.answer ∙ ap (λ x. fits (length c.args.bytes.now) x c.args.address) c.deref-mut.ensures.value);
-      after = else_when _ _ _ _ _ _ c.deref-mut.ensures.value e c.if-altered.ensures.answer c.if-altered.ensures.after;
+          ∙ ap alter_answer (c.if-altered.ensures.answer ∙ ap (λ x. fits (length c.args.bytes.now) x c.args.address) c.deref_mut.ensures.value);
+      after = else_when _ _ _ _ _ _ c.deref_mut.ensures.value e c.if-altered.ensures.answer c.if-altered.ensures.after;
       kept = (refl, refl);
     }

@@ -9,7 +9,7 @@ index-mut-requires c =
     let l = v.ok.0 in
     omega arith
 
-pub invariant-of-self : goal.invariant-of-self
-invariant-of-self c =
+pub invariant_of-self : goal.invariant_of-self
+invariant_of-self c =
     let b = c.args.self.now.area.items in
     (c.args.self.now.known ∙ sym (mark_opened b c.args.slot 2 (omega (arith, c.count.ensures)) (omega arith)), tt)

@@ -9,7 +9,7 @@ pub index-mut-requires : goal.index-mut-requires
 index-mut-requires c =
     let v = c.args.self.now.area in
     let k = c.args.slot in
-    let w = mark_within v.items k (there v.items k (length c.args.page.now) c.in-ok-check.field-0 c.in-ok-check.ensures) in
+    let w = mark_within v.items k (there v.items k (length c.args.page.now) c.in_ok-check.field-0 c.in_ok-check.ensures) in
     let l = v.ok.0 in
     omega arith
 
@@ -17,29 +17,29 @@ pub overflow-add-part : goal.overflow-add-part
 overflow-add-part c =
     let b = c.args.self.now.area.items in
     let k = c.args.slot in
-    let w = within b k (there b k (length c.args.page.now) c.in-ok-check.field-0 c.in-ok-check.ensures) in
+    let w = within b k (there b k (length c.args.page.now) c.in_ok-check.field-0 c.in_ok-check.ensures) in
     let e = c.place-at.ensures in
     let l = c.args.self.now.area.ok.0 in
     search rules
 
-pub slice-bounds-part-end : goal.slice-bounds-part-end
-slice-bounds-part-end c =
+pub slice_bounds-part-end : goal.slice_bounds-part-end
+slice_bounds-part-end c =
     let b = c.args.self.now.area.items in
     let k = c.args.slot in
-    let w = within b k (there b k (length c.args.page.now) c.in-ok-check.field-0 c.in-ok-check.ensures) in
+    let w = within b k (there b k (length c.args.page.now) c.in_ok-check.field-0 c.in_ok-check.ensures) in
     let e = c.place-at.ensures in
-    let d : c.place-at.result + 2048 ≤ length c.deref-mut.result.now = rw c.deref-mut.ensures.value (simp length-set (omega arith)) in
+    let d : c.place-at.result + 2048 ≤ length c.deref_mut.result.now = rw c.deref_mut.ensures.value (simp length-set (omega arith)) in
     search rules
 
-pub invariant-of-self : goal.invariant-of-self
-invariant-of-self c =
+pub invariant_of-self : goal.invariant_of-self
+invariant_of-self c =
     let v = c.args.self.now.area in
     let k = c.args.slot in
     let p = c.args.page.now in
-    let h = there v.items k (length p) c.in-ok-check.field-0 c.in-ok-check.ensures in
-    let e = long v.items k (length p) c.in-ok-check.field-0 c.in-ok-check.ensures in
-    let put = stored v k c.place-at.result p c.deref-mut.result.now c.copy-from-slice.new.self h e
-    c.place-at.ensures c.deref-mut.ensures.value c.copy-from-slice.ensures.after in
+    let h = there v.items k (length p) c.in_ok-check.field-0 c.in_ok-check.ensures in
+    let e = long v.items k (length p) c.in_ok-check.field-0 c.in_ok-check.ensures in
+    let put = stored v k c.place-at.result p c.deref_mut.result.now c.copy_from_slice.new.self h e
+    c.place-at.ensures c.deref_mut.ensures.value c.copy_from_slice.ensures.after in
     (c.args.self.now.known ∙ sym (ap opened put ∙ write_opened v.items k p h e), tt)
 
 pub returns : goal.returns
@@ -47,9 +47,9 @@ returns c =
     let v = c.args.self.now.area in
     let k = c.args.slot in
     let p = c.args.page.now in
-    let none = unrefused v.items k (length p) c.in-ok-check.field-0 c.in-ok-check.ensures in
-    let h = there v.items k (length p) c.in-ok-check.field-0 c.in-ok-check.ensures in
-    let e = long v.items k (length p) c.in-ok-check.field-0 c.in-ok-check.ensures in
-    let put = stored v k c.place-at.result p c.deref-mut.result.now c.copy-from-slice.new.self h e
-    c.place-at.ensures c.deref-mut.ensures.value c.copy-from-slice.ensures.after in
+    let none = unrefused v.items k (length p) c.in_ok-check.field-0 c.in_ok-check.ensures in
+    let h = there v.items k (length p) c.in_ok-check.field-0 c.in_ok-check.ensures in
+    let e = long v.items k (length p) c.in_ok-check.field-0 c.in_ok-check.ensures in
+    let put = stored v k c.place-at.result p c.deref_mut.result.now c.copy_from_slice.new.self h e
+    c.place-at.ensures c.deref_mut.ensures.value c.copy_from_slice.ensures.after in
     record { answer = told_done set_rules v.items k p none; after = write_done set_rules v.items k p none _ put }

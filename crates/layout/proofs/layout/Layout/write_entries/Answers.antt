@@ -13,9 +13,9 @@ loop-page-init c =
 
 pub loop-page-preserved : goal.loop-page-preserved
 loop-page-preserved c =
-    entries_turn (config_of c.args.self.now) c.loop-page.page (32 * c.segments-count.result) c.loop-page.storage c.put-entry.new.storage _
+    entries_turn (config_of c.args.self.now) c.loop-page.page (32 * c.segments-count.result) c.loop-page.storage c.put_entry.new.storage _
     c.loop-page-test.true
-    (c.put-entry.ensures ∙ ap (put_half c.loop-page.storage (entry_at c.loop-page.page)) c.first-entry.ensures)
+    (c.put_entry.ensures ∙ ap (put_half c.loop-page.storage (entry_at c.loop-page.page)) c.first_entry.ensures)
     c.loop-page.invariant
 
 pub returns : goal.returns

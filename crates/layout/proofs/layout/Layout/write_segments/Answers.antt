@@ -9,17 +9,17 @@ use Rattle.layout.proofs.layout.Layout.write_segments.Goals as goal
 
 pub loop-segment-init : goal.loop-segment-init
 loop-segment-init c =
-    ap (λ n. with_segments (config_of c.args.self.now) 0 n c.args.storage.now) (all c.segment-entries-count.result ∙ c.segment-entries-count.ensures)
+    ap (λ n. with_segments (config_of c.args.self.now) 0 n c.args.storage.now) (all c.segment_entries-count.result ∙ c.segment_entries-count.ensures)
 
 pub loop-segment-preserved : goal.loop-segment-preserved
 loop-segment-preserved c =
-    segments_turn (config_of c.args.self.now) c.loop-segment.segment c.segment-entries-count.result c.loop-segment.storage c.put-word.new.storage _
+    segments_turn (config_of c.args.self.now) c.loop-segment.segment c.segment_entries-count.result c.loop-segment.storage c.put_word.new.storage _
     c.loop-segment-test.true
-    (c.put-word.ensures.after ∙ ap (λ at. put_word c.loop-segment.storage at c.segment-word.result) c.segment-place.ensures
-    ∙ ap (put_word c.loop-segment.storage (segment_at c.loop-segment.segment)) c.segment-word.ensures)
+    (c.put_word.ensures.after ∙ ap (λ at. put_word c.loop-segment.storage at c.segment_word.result) c.segment_place.ensures
+    ∙ ap (put_word c.loop-segment.storage (segment_at c.loop-segment.segment)) c.segment_word.ensures)
     c.loop-segment.invariant
 
 pub returns : goal.returns
 returns c =
-    segments_done (config_of c.args.self.now) c.loop-segment.segment c.segment-entries-count.result c.loop-segment.storage _
+    segments_done (config_of c.args.self.now) c.loop-segment.segment c.segment_entries-count.result c.loop-segment.storage _
     c.loop-segment-test.false c.loop-segment.invariant

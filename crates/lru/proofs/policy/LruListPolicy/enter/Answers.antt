@@ -10,8 +10,8 @@ returns-then-frame-gt255 c =
     let no = big_free (take s.len s.frames) c.args.frame (omega arith) in
     record { answer = no; after = refused (take s.len s.frames) c.args.frame no }
 
-pub invariant-of-self : goal.invariant-of-self
-invariant-of-self c =
+pub invariant_of-self : goal.invariant_of-self
+invariant_of-self c =
     let s = c.args.self.now in
     let yes = nowhere_free (take s.len s.frames) c.args.frame (front_nowhere s.frames s.len c.args.frame c.in-None.ensures.place) (omega arith) in
     let is = c.put-self.ensures.front ∙ put_entered s.frames s.len c.args.frame s.long s.room s.once yes in

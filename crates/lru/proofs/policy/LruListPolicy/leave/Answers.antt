@@ -5,8 +5,8 @@ use Rattle.lru.specs.Laws.{once_without}
 use Rattle.lru.proofs.Kept.{back_long, back_removed, found_held, front_found, front_nowhere, nowhere_held, nowhere_left, once_same}
 use Rattle.lru.proofs.policy.LruListPolicy.leave.Goals as goal
 
-pub invariant-of-self : goal.invariant-of-self
-invariant-of-self c =
+pub invariant_of-self : goal.invariant_of-self
+invariant_of-self c =
     let s = c.args.self.now in
     let kept : length c.remove-self.new.list ≡ length (take (s.len - 0) s.frames) = search rules in
     let is = back_removed s.frames c.remove-self.new.list s.len s.long s.room kept c.args.frame c.in-Some.place s.once c.in-Some.ensures.place

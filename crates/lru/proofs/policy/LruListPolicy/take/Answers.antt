@@ -5,8 +5,8 @@ use Rattle.lru.specs.Laws.{once_rest}
 use Rattle.lru.proofs.Kept.{back_long, back_first, taken_first, once_same}
 use Rattle.lru.proofs.policy.LruListPolicy.take.Goals as goal
 
-pub invariant-of-self : goal.invariant-of-self
-invariant-of-self c =
+pub invariant_of-self : goal.invariant_of-self
+invariant_of-self c =
     let s = c.args.self.now in
     let kept : length c.remove-self.new.list ≡ length (take (s.len - 0) s.frames) = search rules in
     let some : 0 < s.len = omega arith in

@@ -7,7 +7,7 @@ use Rattle.machine.proofs.machine.Machine.settle_frames.Goals as goal
 
 pub loop-frame-preserved : goal.loop-frame-preserved
 loop-frame-preserved g c =
-    swept_turn (rules g.T.Translator g.P.Policy g.S.PageStore) c.loop-frame.frame c.frames-past.result (world g.T.Translator g.P.Policy g.S.PageStore c.loop-frame.self c.loop-frame.storage) _ _ c.loop-frame-test.true c.settle-frame.ensures c.loop-frame.invariant
+    swept_turn (rules g.T.Translator g.P.Policy g.S.PageStore) c.loop-frame.frame c.frames-past.result (world g.T.Translator g.P.Policy g.S.PageStore c.loop-frame.self c.loop-frame.storage) _ _ c.loop-frame-test.true c.settle_frame.ensures c.loop-frame.invariant
 
 pub returns : goal.returns
 returns g c =

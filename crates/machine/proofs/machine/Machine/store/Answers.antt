@@ -4,17 +4,17 @@ use Rattle.machine.specs.Machine.{rules, world}
 use Rattle.machine.proofs.Called.{store_done, store_refused}
 use Rattle.machine.proofs.machine.Machine.store.Goals as goal
 
-pub returns-in-err-request : goal.returns-in-err-request
-returns-in-err-request g c =
+pub returns-in_err-request : goal.returns-in_err-request
+returns-in_err-request g c =
     let p = err_from_is_err_and c.from-residual.result c.from-residual.ensures.1 in
     rw (p.1, p.2) (record {
-      rule = store_refused (rules g.T.Translator g.P.Policy g.S.PageStore) (world g.T.Translator g.P.Policy g.S.PageStore c.args.self.now c.args.storage.now) c.args.address c.args.key c.args.byte c.in-err-request.field-0.0 c.in-err-request.ensures;
+      rule = store_refused (rules g.T.Translator g.P.Policy g.S.PageStore) (world g.T.Translator g.P.Policy g.S.PageStore c.args.self.now c.args.storage.now) c.args.address c.args.key c.args.byte c.in_err-request.field-0.0 c.in_err-request.ensures;
       refused = refl;
     })
 
 pub returns : goal.returns
 returns g c = record {
-  rule = store_done (rules g.T.Translator g.P.Policy g.S.PageStore) (world g.T.Translator g.P.Policy g.S.PageStore c.args.self.now c.args.storage.now) c.in-ok-request.request c.bring-frame.result (world g.T.Translator g.P.Policy g.S.PageStore (record { own = c.bring-frame.new.self }) c.bring-frame.new.storage) c.bring-frame.ensures.frame c.bring-frame.ensures.rule
-      c.args.address c.args.key c.args.byte _ c.in-ok-request.ensures c.write-byte.ensures;
+  rule = store_done (rules g.T.Translator g.P.Policy g.S.PageStore) (world g.T.Translator g.P.Policy g.S.PageStore c.args.self.now c.args.storage.now) c.in_ok-request.request c.bring-frame.result (world g.T.Translator g.P.Policy g.S.PageStore (record { own = c.bring-frame.new.self }) c.bring-frame.new.storage) c.bring-frame.ensures.frame c.bring-frame.ensures.rule
+      c.args.address c.args.key c.args.byte _ c.in_ok-request.ensures c.write_byte.ensures;
   refused = tt;
 }

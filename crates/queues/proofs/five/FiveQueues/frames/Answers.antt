@@ -19,7 +19,7 @@ loop-left-preserved c =
     let n = links_of s.next in
     listed_more n c.loop-left.node (vec_items c.loop-left.list) (vec_items c.new-list.result ++ walk 256 n c.follow-node.result) c.loop-left.left
     c.follow-node-in-loop-left.result (vec_items c.push.new.self) c.loop-left-test.true c.if-node-ge-MARK.false
-    c.follow-node-in-loop-left.ensures c.in-ok-push.ensures.items c.loop-left.invariant
+    c.follow-node-in-loop-left.ensures c.in_ok-push.ensures.items c.loop-left.invariant
 
 pub returns : goal.returns
 returns c =

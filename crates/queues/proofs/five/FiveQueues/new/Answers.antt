@@ -2,8 +2,8 @@ use Rattle.std.proofs.Common.{◌++◌, replicate, refl, lit<}
 use Rattle.queues.specs.Operations.{fresh_keeps, fresh_named}
 use Rattle.queues.proofs.five.FiveQueues.new.Goals as goal
 
-pub invariant-of-result : goal.invariant-of-result
-invariant-of-result c =
+pub invariant_of-result : goal.invariant_of-result
+invariant_of-result c =
     let k = fresh_keeps (c.new.result.frames ++ c.new.result.ends) (c.new-2.result.frames ++ c.new-2.result.ends) (replicate 256 5) c.new.ensures c.new-2.ensures refl in
     (lit< tt, (refl, (k.0, (k.1, (k.2, tt)))))
 

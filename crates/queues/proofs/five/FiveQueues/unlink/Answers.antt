@@ -15,8 +15,8 @@ returns-then-self-frame-ge-NONE c =
       after = free_same (s.next.frames ++ s.next.ends) (s.prev.frames ++ s.prev.ends) s.place s.first c.args.frame (s.placed, s.forward, s.backward) nl pl s.long s.named f< c.if-self-frame-ge-NONE.true;
     }
 
-pub invariant-of-self : goal.invariant-of-self
-invariant-of-self c =
+pub invariant_of-self : goal.invariant_of-self
+invariant_of-self c =
     let s = c.args.self.now in
     let f< : c.args.frame < 256 = omega arith in
     let nl = all_long s.next.frames s.next.ends s.next.long s.next.five in

@@ -12,12 +12,12 @@ loop-page-init c =
 pub loop-page-preserved : goal.loop-page-preserved
 loop-page-preserved c =
     entry_passes (config_in c.args.self.now) c.args.storage.now (records_in c.args.self.now) c.loop-page.page (32 * c.segments-count.result) _
-    c.loop-page-test.true (c.if-not-entry-is.ensures ∙ ap (entry_is c.args.storage.now c.loop-page.page) c.entry-should.ensures) c.loop-page.invariant
+    c.loop-page-test.true (c.if-not-entry_is.ensures ∙ ap (entry_is c.args.storage.now c.loop-page.page) c.entry_should.ensures) c.loop-page.invariant
 
-pub returns-then-not-entry-is : goal.returns-then-not-entry-is
-returns-then-not-entry-is c =
+pub returns-then-not-entry_is : goal.returns-then-not-entry_is
+returns-then-not-entry_is c =
     entry_fails (config_in c.args.self.now) c.args.storage.now (records_in c.args.self.now) c.loop-page.page (32 * c.segments-count.result) _
-    c.loop-page-test.true (c.if-not-entry-is.ensures ∙ ap (entry_is c.args.storage.now c.loop-page.page) c.entry-should.ensures) c.loop-page.invariant
+    c.loop-page-test.true (c.if-not-entry_is.ensures ∙ ap (entry_is c.args.storage.now c.loop-page.page) c.entry_should.ensures) c.loop-page.invariant
 
 pub returns : goal.returns
 returns c =

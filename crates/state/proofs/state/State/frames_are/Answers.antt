@@ -12,12 +12,12 @@ loop-frame-init c =
 pub loop-frame-preserved : goal.loop-frame-preserved
 loop-frame-preserved c =
     frame_passes (config_in c.args.self.now) c.args.storage.now (records_in c.args.self.now) c.loop-frame.frame c.frames-past.result _
-    c.loop-frame-test.true c.if-not-frame-is.ensures c.loop-frame.invariant
+    c.loop-frame-test.true c.if-not-frame_is.ensures c.loop-frame.invariant
 
-pub returns-then-not-frame-is : goal.returns-then-not-frame-is
-returns-then-not-frame-is c =
+pub returns-then-not-frame_is : goal.returns-then-not-frame_is
+returns-then-not-frame_is c =
     frame_fails (config_in c.args.self.now) c.args.storage.now (records_in c.args.self.now) c.loop-frame.frame c.frames-past.result _
-    c.loop-frame-test.true c.if-not-frame-is.ensures c.loop-frame.invariant
+    c.loop-frame-test.true c.if-not-frame_is.ensures c.loop-frame.invariant
 
 pub returns : goal.returns
 returns c =

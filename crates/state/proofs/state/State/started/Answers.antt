@@ -6,5 +6,5 @@ use Rattle.state.proofs.state.State.started.Goals as goal
 pub returns : goal.returns
 returns c = record {
   config = refl;
-  records = c.own-pages.ensures ∙ ap (λ n. own_pages 0 n (records_of c.new-table.result)) c.supervisor.ensures.value ∙ ap (own_pages 0 c.args.layout.supervisor) c.new-table.ensures;
+  records = c.own_pages.ensures ∙ ap (λ n. own_pages 0 n (records_of c.new-table.result)) c.supervisor.ensures.value ∙ ap (own_pages 0 c.args.layout.supervisor) c.new-table.ensures;
 }
