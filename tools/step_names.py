@@ -19,7 +19,7 @@ def files(end):
 
 
 # Words of the library and of the check itself.
-words = set("deref_mut slice_bounds nonzero_div nonzero_rem as_slice as_mut_slice from_array is_some is_none unwrap_or in_ok in_err invariant_of type_inv checked_add checked_sub checked_mul saturating_sub saturating_add wrapping_add to_vec get_mut as_bytes as_str".split())
+words = set("index_mut from_residual in_default overflow_add overflow_sub overflow_mul overflow_shl overflow_shr overflow_cast overflow_step offset_bounds deref_mut slice_bounds nonzero_div nonzero_rem as_slice as_mut_slice from_array is_some is_none unwrap_or in_ok in_err invariant_of type_inv checked_add checked_sub checked_mul saturating_sub saturating_add wrapping_add to_vec get_mut as_bytes as_str".split())
 for p in files(".rt"):
     with open(p, encoding="utf-8") as f:
         words.update(w for w in re.findall(r"\b(?:[a-z][a-z0-9]*(?:_[a-z0-9]+)+|[A-Z][A-Z0-9]*(?:_[A-Z0-9]+)+)\b", f.read()))

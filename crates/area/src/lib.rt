@@ -1,6 +1,7 @@
 //! A page store of kind 1: a plain byte area, slot `s` at 2,048 × `s`. No slot is bad. Bytes in a last part slot, or past
 //! slot 8,191, belong to no slot and are never altered.
 #![tactic(auto)]
+
 ghost use Rattle.std.specs.Prelude.{◌≡◌, ℕ, ◌*◌, List};
 ghost use Rattle.pages.specs.Store.{refusal_at, told};
 ghost use Rattle.area.specs.Plain.{PlainLaws, plain_fault, plain_rules};

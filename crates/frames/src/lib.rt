@@ -1,5 +1,6 @@
 // What holds the frames that can be taken for a page, and says which of them is taken.
 #![tactic(auto)]
+
 mod calls;
 mod keys;
 mod runs;

@@ -1,5 +1,6 @@
 // A frame policy that takes the frame whose last use is longest ago.
 #![tactic(auto)]
+
 mod list;
 mod policy;
 

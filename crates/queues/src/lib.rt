@@ -1,5 +1,6 @@
 // The frame policy of five queues.
 #![tactic(auto)]
+
 mod chain;
 mod five;
 mod moves;

@@ -1,5 +1,6 @@
 //! Scripts: lines, the numbers and words in them, and the commands that they write.
 #![tactic(auto)]
+
 pub mod command;
 pub mod number;
 pub mod verb;

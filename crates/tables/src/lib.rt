@@ -4,6 +4,7 @@
 //! `walk` is the whole of it. Its ten steps are stated in `specs/Walk.antt`; what a real address is in the architecture's
 //! own words, in `specs/Leads.antt`.
 #![tactic(auto)]
+
 ghost use Rattle.std.specs.Prelude.{◌≡◌, ℕ, ◌+◌, ◌-◌, ◌*◌, ◌/◌, ◌%◌, ◌^◌, ◌<◌, ◌≤◌, OnOk};
 ghost use Rattle.tables.specs.Bits.{half_bits, word_bits};
 ghost use Rattle.tables.specs.Leads.{Exact};

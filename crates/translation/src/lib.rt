@@ -4,6 +4,7 @@
 //! translator stand in `specs/Translator.antt`. `Walker` walks the tables each time; `Tlb<T>` keeps eight pairs over any
 //! translator. `runs::answer_all` carries the theorem that lookaside registers cannot be told from none.
 #![tactic(auto)]
+
 mod pair;
 mod runs;
 mod tlb;

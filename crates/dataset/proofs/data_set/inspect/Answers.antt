@@ -2,11 +2,11 @@ use Rattle.std.proofs.Common.{true, false, arith}
 use Rattle.dataset.specs.Opening.{short, shorter, other_size, too_many, other_length, last_test}
 use Rattle.dataset.proofs.data_set.inspect.Goals as goal
 
-pub returns-in-default : goal.returns-in-default
-returns-in-default c = short c.args.area.now c.in-default.ensures
+pub returns-in_default : goal.returns-in_default
+returns-in_default c = short c.args.area.now c.in_default.ensures
 
-pub returns-in-default-word : goal.returns-in-default-word
-returns-in-default-word c = shorter c.args.area.now c.in-default-word.ensures
+pub returns-in_default-word : goal.returns-in_default-word
+returns-in_default-word c = shorter c.args.area.now c.in_default-word.ensures
 
 pub returns-then-size-ne-PAGE : goal.returns-then-size-ne-PAGE
 returns-then-size-ne-PAGE c =

@@ -10,7 +10,7 @@ loop-slot-init g c = ap (first_fault g.S.PageStore.rules (g.S.PageStore.model c.
 pub loop-slot-preserved : goal.loop-slot-preserved
 loop-slot-preserved g c =
     slot_good g.S.PageStore.rules (g.S.PageStore.model c.args.store.now) c.loop-slot.slot c.args.slots _ c.loop-slot-test.true c.loop-slot.invariant
-    c.in-default.field-0 c.in-default.ensures
+    c.in_default.field-0 c.in_default.ensures
 
 pub returns-in-Err : goal.returns-in-Err
 returns-in-Err g c =

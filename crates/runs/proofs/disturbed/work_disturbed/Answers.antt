@@ -6,8 +6,8 @@ use Rattle.runs.proofs.Playing.{not_begun}
 use Rattle.runs.specs.Disturbed.{handing, storages_of}
 use Rattle.runs.proofs.disturbed.work_disturbed.Goals as goal
 
-pub returns-in-default : goal.returns-in-default
-returns-in-default g c = record {
+pub returns-in_default : goal.returns-in_default
+returns-in_default g c = record {
   run = (refl, refl);
   law = steady_of (rules g.T.Translator g.P.Policy g.S.PageStore) (record { translator = g.met.T.Translator.lawful; policy = g.met.P.Policy.lawful; store = g.met.S.PageStore.lawful });
 }
@@ -22,6 +22,6 @@ pub returns : goal.returns
 returns g c = record {
   run = steadily (rules g.T.Translator g.P.Policy g.S.PageStore) (record { translator = g.met.T.Translator.lawful; policy = g.met.P.Policy.lawful; store = g.met.S.PageStore.lawful }) (record { frames = c.args.frames; supervisor = c.args.supervisor; pages = c.args.pages; partitions = c.args.partitions.now }) (handing c.args.calls.now) (world g.T.Translator g.P.Policy g.S.PageStore c.args.machine.now c.args.storage.now) (world g.T.Translator g.P.Policy g.S.PageStore c.ipl.new.self c.ipl.new.storage) (record { translator = g.met.T.Translator.valid c.args.machine.now.own.translator; policy = g.met.P.Policy.valid c.args.machine.now.own.policy; store = g.met.S.PageStore.valid c.args.machine.now.own.store })
       (world g.T.Translator g.P.Policy g.S.PageStore c.hand_all.new.machine) (vec_items c.in-Ok.answers) (vec_items c.hand_all.new.answers) (storages_of c.hand_all.new.calls)
-      c.in-default-ipl.ensures.rule c.in-Ok.ensures.items c.hand_all.ensures;
+      c.in_default-ipl.ensures.rule c.in-Ok.ensures.items c.hand_all.ensures;
   law = steady_of (rules g.T.Translator g.P.Policy g.S.PageStore) (record { translator = g.met.T.Translator.lawful; policy = g.met.P.Policy.lawful; store = g.met.S.PageStore.lawful });
 }

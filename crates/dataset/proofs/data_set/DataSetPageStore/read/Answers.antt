@@ -15,8 +15,8 @@ returns-then-not-holds_page c =
     let blank = read_blank b k (length buffer) mark ok c.fill.new.self c.if-not-holds_page.ensures (c.fill.ensures.after (λ y q. q)) in
     record { answer = told_done set_rules b k buffer none; after = read_done set_rules b k buffer none _ blank }
 
-pub overflow-add-at : goal.overflow-add-at
-overflow-add-at c =
+pub overflow_add-at : goal.overflow_add-at
+overflow_add-at c =
     let b = c.args.self.now.area.items in
     let k = c.args.slot in
     let w = within b k (there b k (length c.args.page.now) c.in_ok-mark.mark c.in_ok-mark.ensures) in

@@ -5,16 +5,16 @@ use Rattle.dataset.specs.Format.{opened, set_rules}
 use Rattle.dataset.specs.Slots.{within, mark_within, there, long, unrefused, stored, write_opened}
 use Rattle.dataset.proofs.data_set.DataSetPageStore.write.Goals as goal
 
-pub index-mut-requires : goal.index-mut-requires
-index-mut-requires c =
+pub index_mut-requires : goal.index_mut-requires
+index_mut-requires c =
     let v = c.args.self.now.area in
     let k = c.args.slot in
     let w = mark_within v.items k (there v.items k (length c.args.page.now) c.in_ok-check.field-0 c.in_ok-check.ensures) in
     let l = v.ok.0 in
     omega arith
 
-pub overflow-add-part : goal.overflow-add-part
-overflow-add-part c =
+pub overflow_add-part : goal.overflow_add-part
+overflow_add-part c =
     let b = c.args.self.now.area.items in
     let k = c.args.slot in
     let w = within b k (there b k (length c.args.page.now) c.in_ok-check.field-0 c.in_ok-check.ensures) in

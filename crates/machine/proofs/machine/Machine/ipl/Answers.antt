@@ -7,7 +7,7 @@ use Rattle.machine.proofs.machine.Machine.ipl.Goals as goal
 
 pub returns-in_err-layout : goal.returns-in_err-layout
 returns-in_err-layout g c =
-    let p = err_from_is_err_and c.from-residual.result c.from-residual.ensures.1 in
+    let p = err_from_is_err_and c.from_residual.result c.from_residual.ensures.1 in
     rw (p.1, p.2) (record {
       rule = ipl_refused (rules g.T.Translator g.P.Policy g.S.PageStore) (record { frames = c.args.frames; supervisor = c.args.supervisor; pages = c.args.pages; partitions = c.args.partitions.now }) (world g.T.Translator g.P.Policy g.S.PageStore c.args.self.now c.args.storage.now) c.in_err-layout.field-0.0 c.in_err-layout.ensures;
       refused = refl;
@@ -25,6 +25,6 @@ pub returns : goal.returns
 returns g c =
     let slots : c.saturating_sub-slots.result ≡ (config_of c.in_ok-layout.layout).pages - (config_of c.in_ok-layout.layout).supervisor = c.saturating_sub-slots.ensures ∙ ap (λ n. n - c.supervisor.result) c.pages.ensures.value ∙ ap (λ n. (config_of c.in_ok-layout.layout).pages - n) c.supervisor.ensures.value in
     record {
-      rule = ipl_done (rules g.T.Translator g.P.Policy g.S.PageStore) (record { frames = c.args.frames; supervisor = c.args.supervisor; pages = c.args.pages; partitions = c.args.partitions.now }) (world g.T.Translator g.P.Policy g.S.PageStore c.args.self.now c.args.storage.now) (config_of c.in_ok-layout.layout) c.in_ok-layout.ensures c.saturating_sub-slots.result _ slots c.in-default.ensures c.start.ensures;
+      rule = ipl_done (rules g.T.Translator g.P.Policy g.S.PageStore) (record { frames = c.args.frames; supervisor = c.args.supervisor; pages = c.args.pages; partitions = c.args.partitions.now }) (world g.T.Translator g.P.Policy g.S.PageStore c.args.self.now c.args.storage.now) (config_of c.in_ok-layout.layout) c.in_ok-layout.ensures c.saturating_sub-slots.result _ slots c.in_default.ensures c.start.ensures;
       refused = tt;
     }

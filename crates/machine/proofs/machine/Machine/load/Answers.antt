@@ -6,7 +6,7 @@ use Rattle.machine.proofs.machine.Machine.load.Goals as goal
 
 pub returns-in_err-request : goal.returns-in_err-request
 returns-in_err-request g c =
-    let p = err_from_is_err_and c.from-residual.result c.from-residual.ensures.1 in
+    let p = err_from_is_err_and c.from_residual.result c.from_residual.ensures.1 in
     rw (p.1, p.2) (record {
       rule = load_refused (rules g.T.Translator g.P.Policy g.S.PageStore) (world g.T.Translator g.P.Policy g.S.PageStore c.args.self.now c.args.storage.now) c.args.address c.args.key c.in_err-request.field-0.0 c.in_err-request.ensures;
       refused = refl;

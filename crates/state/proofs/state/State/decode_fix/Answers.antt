@@ -10,7 +10,7 @@ returns-then-not-right_length c = fix_sizes (bare c.args.self.now c.args.storage
 
 pub returns-in_err-own : goal.returns-in_err-own
 returns-in_err-own c =
-    let p = err_from_is_err_and c.from-residual.result c.from-residual.ensures.1 in
+    let p = err_from_is_err_and c.from_residual.result c.from_residual.ensures.1 in
     p.1 ∙ ap Err p.2 ∙ fix_none (bare c.args.self.now c.args.storage.now) c.args.page c.in_err-own.field-0.0 c.if-not-right_length.ensures c.in_err-own.ensures.answer
 
 pub returns-then-fixes_of : goal.returns-then-fixes_of

@@ -10,7 +10,7 @@ returns-then-not-right_length c = free_sizes (bare c.args.self.now c.args.storag
 
 pub returns-in_err-key : goal.returns-in_err-key
 returns-in_err-key c =
-    let p = err_from_is_err_and c.from-residual.result c.from-residual.ensures.1 in
+    let p = err_from_is_err_and c.from_residual.result c.from_residual.ensures.1 in
     p.1 ∙ ap Err p.2 ∙ free_none (bare c.args.self.now c.args.storage.now) c.args.page c.in_err-key.field-0.0 c.if-not-right_length.ensures c.in_err-key.ensures.answer
 
 pub returns-then-fixes_of-eq0 : goal.returns-then-fixes_of-eq0

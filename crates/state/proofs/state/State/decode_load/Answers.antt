@@ -13,7 +13,7 @@ returns-then-key-gt15 c = load_high (bare c.args.self.now c.args.storage.now) c.
 
 pub returns-in_err-own : goal.returns-in_err-own
 returns-in_err-own c =
-    let p = err_from_is_err_and c.from-residual.result c.from-residual.ensures.1 in
+    let p = err_from_is_err_and c.from_residual.result c.from_residual.ensures.1 in
     p.1 ∙ ap Err p.2 ∙ load_none (bare c.args.self.now c.args.storage.now) c.args.address c.args.key c.in_err-own.field-0.0 c.if-not-right_length.ensures c.if-key-gt15.false c.in_err-own.ensures.answer
 
 pub returns : goal.returns

@@ -5,8 +5,8 @@ use Rattle.state.proofs.Counting.{changed, most, other}
 use Rattle.state.specs.Bare.{records_in}
 use Rattle.state.proofs.state.State.set_fixes.Goals as goal
 
-pub overflow-add-self : goal.overflow-add-self
-overflow-add-self c =
+pub overflow_add-self : goal.overflow_add-self
+overflow_add-self c =
     let st = c.args.self.now in
     let bound = most (λ g. ltb 0 (get_or (records_in st) g vacant).fixes) st.layout.supervisor (st.layout.frames - st.layout.supervisor) in
     let e = st.count in
@@ -14,8 +14,8 @@ overflow-add-self c =
     let one : c.counts.result ≤ 1 = elim (ltb 0 c.args.fixes) as (λ b. c.counts.result ≡ cond b 1 0 → c.counts.result ≤ 1) [ true ↦ λ q. omega arith | false ↦ λ q. omega arith ] c.counts.ensures in
     omega arith
 
-pub overflow-sub-self : goal.overflow-sub-self
-overflow-sub-self c =
+pub overflow_sub-self : goal.overflow_sub-self
+overflow_sub-self c =
     let st = c.args.self.now in
     let row : c.args.frame < length (records_in st) = (let l = st.table.long in omega arith) in
     let all = changed (records_in st) st.layout.supervisor st.layout.frames c.args.frame c.args.fixes row st.fixed c.counts-then-pageable.result c.counts.result

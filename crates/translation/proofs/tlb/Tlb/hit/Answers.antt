@@ -8,7 +8,7 @@ use Rattle.translation.proofs.tlb.Tlb.hit.Goals as goal
 
 pub returns-in_err-real : goal.returns-in_err-real
 returns-in_err-real g c =
-    let e : c.from-residual.result ≡ Err c.in_err-real.field-0.0 = search rules in
+    let e : c.from_residual.result ≡ Err c.in_err-real.field-0.0 = search rules in
     let l : Err c.in_err-real.field-0.0 ≡ located c.args.storage.now (get_or c.args.self.now.pairs c.args.place (pair_of 0 0)).start c.args.byte = search rules in
     let t = hit_refused (g.T.Translator.model c.args.self.now.below) c.args.self.now.pairs c.args.self.now.held c.args.place c.args.byte c.args.storage.now
     (omega (arith, c.args.self.now.room, c.args.self.now.few)) c.requires c.in_err-real.field-0.0 l in

@@ -21,5 +21,5 @@ loop-place-preserved c =
 pub returns : goal.returns
 returns c =
     let none : place_of page_of c.args.page (take c.loop-place.left c.loop-place.pairs) 0 ≡ None =
-    ap (λ l. place_of page_of c.args.page l 0) (sym (front_part c.loop-place.pairs c.loop-place.left)) ∙ sym c.in-default.ensures.place in
+    ap (λ l. place_of page_of c.args.page l 0) (sym (front_part c.loop-place.pairs c.loop-place.left)) ∙ sym c.in_default.ensures.place in
     record { count = c.loop-place.invariant.0; left = sym (without_nowhere _ c.args.page 0 none) ∙ c.loop-place.invariant.2 }
