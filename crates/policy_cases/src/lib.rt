@@ -3,7 +3,7 @@
 #[cfg(test)]
 mod tests {
     use frames::Policy;
-    use lru::LruList;
+    use lru_list::LruList;
     use queues::{FiveQueues, Queue};
     use std::test::*;
 

@@ -7,7 +7,7 @@ ghost use Rattle.std.specs.Prelude.{◌≡◌, replicate};
 ghost use Rattle.references.specs.Reference.{returned};
 
 use frames::Policy;
-use lru::LruList;
+use lru_list::LruList;
 use player::Player;
 use queues::{FiveQueues, Queue};
 

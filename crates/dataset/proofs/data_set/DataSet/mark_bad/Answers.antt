@@ -12,4 +12,4 @@ index_mut-requires c =
 pub invariant_of-self : goal.invariant_of-self
 invariant_of-self c =
     let b = c.args.self.now.area.items in
-    (c.args.self.now.known ∙ sym (mark_opened b c.args.slot 2 (omega (arith, c.count.ensures)) (omega arith)), tt)
+    record { known = c.args.self.now.known ∙ sym (mark_opened b c.args.slot 2 (omega (arith, c.count.ensures)) (omega arith)) }

@@ -40,7 +40,7 @@ invariant_of-self c =
     let e = long v.items k (length p) c.in_ok-check.field-0 c.in_ok-check.ensures in
     let put = stored v k c.place-at.result p c.deref_mut.result.now c.copy_from_slice.new.self h e
     c.place-at.ensures c.deref_mut.ensures.value c.copy_from_slice.ensures.after in
-    (c.args.self.now.known ∙ sym (ap opened put ∙ write_opened v.items k p h e), tt)
+    record { known = c.args.self.now.known ∙ sym (ap opened put ∙ write_opened v.items k p h e) }
 
 pub returns : goal.returns
 returns c =

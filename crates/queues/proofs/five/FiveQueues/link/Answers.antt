@@ -26,7 +26,7 @@ invariant_of-self c =
     (c.lead.new.self.frames ++ c.lead.new.self.ends) (c.lead-2.new.self.frames ++ c.lead-2.new.self.ends)
     (c.lead-3.new.self.frames ++ c.lead-3.new.self.ends) (c.lead-4.new.self.frames ++ c.lead-4.new.self.ends)
     c.number-number.ensures c.follow-tail.ensures c.lead.ensures c.lead-2.ensures c.lead-3.ensures c.lead-4.ensures in
-    (s.named, (length-set s.place c.args.frame c.number-number.result ∙ s.long, (k.0, (k.1, (k.2, tt)))))
+    record { named = s.named; long = length-set s.place c.args.frame c.number-number.result ∙ s.long; placed = k.0; forward = k.1; backward = k.2 }
 
 pub returns : goal.returns
 returns c =

@@ -24,7 +24,7 @@ invariant_of-self c =
     let k = out_keeps (s.next.frames ++ s.next.ends) (s.prev.frames ++ s.prev.ends) s.place s.first c.args.frame (s.placed, s.forward, s.backward) nl pl s.long s.named f< c.if-self-frame-ge-NONE.false
     c.follow-before.result c.follow-behind.result (c.lead.new.self.frames ++ c.lead.new.self.ends) (c.lead-2.new.self.frames ++ c.lead-2.new.self.ends)
     c.follow-before.ensures c.follow-behind.ensures c.lead.ensures c.lead-2.ensures in
-    (s.named, (length-set s.place c.args.frame 5 ∙ s.long, (k.0, (k.1, (k.2, tt)))))
+    record { named = s.named; long = length-set s.place c.args.frame 5 ∙ s.long; placed = k.0; forward = k.1; backward = k.2 }
 
 pub returns : goal.returns
 returns c =

@@ -23,7 +23,7 @@ invariant_of-self g c =
     let fl = length-take-le c.args.self.now.held c.args.self.now.pairs (omega arith) in
     let long : length c.move_to_end.new.list ≡ c.args.self.now.held =
     ap length e ∙ at_end_length (take c.args.self.now.held c.args.self.now.pairs) c.args.place (omega (arith, c.requires)) ∙ fl in
-    (few, (turned_long c.args.self.now.pairs c.move_to_end.new.list c.args.self.now.held (omega arith) long ∙ room, tt))
+    record { few = few; room = turned_long c.args.self.now.pairs c.move_to_end.new.list c.args.self.now.held (omega arith) long ∙ room }
 
 pub returns : goal.returns
 returns g c =

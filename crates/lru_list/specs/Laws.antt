@@ -5,7 +5,7 @@ use Rattle.std.proofs.lemmas.Bool.{cases_eq, cases_Bool, eq-eqb, ne_eqb, eqb-tru
 use Rattle.frames.specs.Held.{times_in, without, Once}
 use Rattle.frames.specs.Policy.{Rules, Lawful, Picks, KeysKept, free}
 use Rattle.frames.proofs.Held.{share, share_same, share_other, times_append, without_same, without_other}
-use Rattle.lru.specs.Rules.{entered, touched, taken, lru_rules}
+use Rattle.lru_list.specs.Rules.{entered, touched, taken, lru_rules}
 
 -- one more frame at the end
 times_last : (xs : List ℕ) (f g : ℕ) → times_in g (xs ++ (f ∷ [])) ≡ times_in g xs + share f g

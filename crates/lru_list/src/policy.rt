@@ -1,6 +1,6 @@
 ghost use Rattle.std.specs.Prelude.{◌≡◌, ℕ, List, [], take};
-ghost use Rattle.lru.specs.Rules.{lru_rules};
-ghost use Rattle.lru.specs.Laws.{lru_lawful};
+ghost use Rattle.lru_list.specs.Rules.{lru_rules};
+ghost use Rattle.lru_list.specs.Laws.{lru_lawful};
 
 use super::list::LruList;
 use frames::Policy;

@@ -12,8 +12,8 @@ use Rattle.recency.proofs.Turn.{put_room}
 use Rattle.frames.specs.Held.{times_in, without, Once}
 use Rattle.frames.specs.Policy.{free, holds}
 use Rattle.frames.proofs.Held.{without_removed, without_none, once_length}
-use Rattle.lru.specs.Rules.{entered, touched, taken, lru_rules}
-use Rattle.lru.specs.Laws.{once_entered}
+use Rattle.lru_list.specs.Rules.{entered, touched, taken, lru_rules}
+use Rattle.lru_list.specs.Laws.{once_entered}
 
 -- the frame f is found at place i of a list that has each frame once
 module _ (xs : List ℕ) (f i : ℕ) (o : Once xs) (at : place_of (λ x. x) f xs 0 ≡ Some i) where
