@@ -39,6 +39,7 @@ FALLING = [
     ("model/proofs/", "key_of", "key_of_lem"),
     ("model/proofs/", "no-page", "no_page_lem"),
     ("model/proofs/", "own-pages", "own_pages_lem"),
+    ("model/proofs/Own.antt", "page-is", "page_is"),
     ("model/proofs/", "page-is", "page_is_lem"),
     ("model/proofs/", "put-out", "put_out_lem"),
     ("model/proofs/", "read-in", "read_in_lem"),

@@ -1,6 +1,7 @@
 //! The worked machine, case by case, and two wirings that lose pages: both computed by the checker from the rules of the
 //! whole machine, with five queues, a TLB over the walker and a page data set.
 #![tactic(auto)]
+
 ghost use Rattle.cases.specs.Cases.{Cases};
 ghost use Rattle.cases.specs.Governed.{Governed};
 ghost use Rattle.cases.specs.Wirings.{Wirings};

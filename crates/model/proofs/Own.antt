@@ -225,7 +225,7 @@ module _ {T : Type 0} (r : translators.Rules T) (law : translators.Lawful r) (c 
         → (g : ℕ) × (g < c.frames) × (page_in rs g ≡ p) × (p < c.pages) × (start ≡ 2048 * g)
     just p start j =
         let z = only_small c a j.sizes (sym (ap (λ (w : Controls). checked w a) k.words) ∙ j.passed) in
-        let pa : p ≡ a / 2048 = j.page_is_lem ∙ ap (λ (y : Sizes). page_number y a) z in
+        let pa : p ≡ a / 2048 = j.page_is ∙ ap (λ (y : Sizes). page_number y a) z in
         let both : ◌≡◌ {A = Result ℕ _} (Ok (start + byte_index j.sizes a)) (Ok (2048 * f + a % 2048)) = sym j.answered ∙ real_is in
         let num : start + byte_index j.sizes a ≡ 2048 * f + a % 2048 = cc in
         let b : byte_index j.sizes a ≡ a % 2048 = ap (λ (y : Sizes). byte_index y a) z ∙ byte_is in

@@ -5,6 +5,7 @@
 //! the law over whole runs; `proofs/` proves it for every translator, policy and page store. There is hardly any code:
 //! `law_stands` carries the theorems.
 #![tactic(auto)]
+
 pub mod calls;
 pub mod law;
 pub mod shape;

@@ -1,6 +1,7 @@
 //! The operator's panel: reads a script from standard input, or from the file that its one argument names, and writes
 //! the answer to each line before it reads the next.
 #![tactic(auto)]
+
 mod lines;
 
 use lines::Console;

@@ -1,5 +1,6 @@
 // Worked examples of the two frame policies. The figures are worked out by hand from the rules.
 #![tactic(auto)]
+
 #[cfg(test)]
 mod tests {
     use frames::Policy;

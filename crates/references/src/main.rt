@@ -1,6 +1,7 @@
 // Plays page reference strings on two frame policies, and prints what each holds after each reference: the list by
 // recency, and the five queues.
 #![tactic(auto)]
+
 mod player;
 
 ghost use Rattle.std.specs.Prelude.{◌≡◌, replicate};

@@ -4,6 +4,7 @@
 //! next one, so that a frame which is not filled cannot be connected. None of the three can be let go; the only way to end
 //! is to connect the frame.
 #![tactic(auto)]
+
 ghost use Rattle.std.specs.Prelude.{◌≡◌};
 
 /// A frame that was taken for a page. It may have another page still.
