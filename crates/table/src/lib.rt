@@ -3,6 +3,7 @@
 //! `record` lends one record by `&mut`. Its contract says what the table is when the loan ends: the lent record as it
 //! was last written, and the 255 others as they were. The functions that change the table write through it.
 #![tactic(auto)]
+
 ghost use Rattle.std.specs.Prelude.{◌≡◌, length};
 ghost use Rattle.std.specs.Borrow.{ftrue};
 
