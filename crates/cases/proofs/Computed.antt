@@ -1,5 +1,5 @@
 -- The cases, computed.
-use Rattle.std.proofs.Common.{◌≡◌, refl}
+use Rattle.std.proofs.Common.{refl}
 use Rattle.dataset.specs.Format.{blank_set, marks_known, opened}
 use Rattle.model.specs.Ipl.{first_fault, ipl, own_pages, returned, with_entries, with_segments}
 use Rattle.model.specs.Layout.{counted, found_in, frames_are}

@@ -1,5 +1,5 @@
 -- The laws, of the worked machine.
-use Rattle.std.proofs.Common.{◌≡◌, refl, arith}
+use Rattle.std.proofs.Common.{refl, arith}
 use Rattle.dataset.specs.Slots.{set_lawful}
 use Rattle.model.proofs.Runs.{law_of, steady_of}
 use Rattle.model.specs.World.{GoodParts, LawfulParts}

@@ -1,5 +1,5 @@
 -- What the worked machine shows, case by case. Cases A to H are one run; case I starts from the same IPL anew.
-use Rattle.std.specs.Prelude.{◌≡◌, ℕ, ◌*◌, List, [], ◌∷◌, ◌++◌, map, replicate, Ok, Err, Result, slice_index}
+use Rattle.std.specs.Prelude.{◌≡◌, ℕ, ◌*◌, List, [], ◌∷◌, map, replicate, Ok, Err, Result, slice_index}
 use Rattle.model.specs.declared.calls.Call.{Call}
 use Rattle.model.specs.declared.calls.Call.TheVariants.{Load, Store, Fix, Free}
 use Rattle.model.specs.Ipl.{ipl}
@@ -7,10 +7,9 @@ use Rattle.model.specs.Layout.{entry_at, no_page, page_in}
 use Rattle.queues.specs.Five.{Five, size}
 use Rattle.queues.specs.Laws.{turns}
 use Rattle.storage.specs.Bytes.{half, word}
-use Rattle.tables.specs.declared.Controls.{Controls}
 use Rattle.tables.specs.declared.Refusal.{Refusal}
 use Rattle.tables.specs.Walk.{number_of, walk}
-use Rattle.cases.specs.Worked.{Machine, Said, after, byte, done, off, parts, ready, refused, said, sizes}
+use Rattle.cases.specs.Worked.{Machine, after, byte, done, off, parts, ready, refused, said, sizes}
 
 -- The words at some places of main storage, and the entries of some pages.
 abbrev pub words_at : List ℕ → Machine → List ℕ

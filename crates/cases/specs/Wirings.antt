@@ -1,6 +1,6 @@
 -- Two wirings of the page fault that lose pages. Each differs from the rules in the second step alone, the emptying of
 -- the frame that was taken, and each is refuted by a list of calls that the flat machine answers otherwise.
-use Rattle.std.specs.Prelude.{◌≡◌, ℕ, Bool, not, ◌&&◌, List, [], ◌∷◌, Some, None, Ok, Err, Option, Result, ◌==◌, slice_index}
+use Rattle.std.specs.Prelude.{◌≡◌, ℕ, not, ◌&&◌, List, [], ◌∷◌, Some, None, Ok, Err, Option, Result, ◌==◌, slice_index}
 use Rattle.frames.specs.Held.{times_in}
 use Rattle.frames.specs.Keys as keys
 use Rattle.model.specs.declared.calls.Answer.{Answer}

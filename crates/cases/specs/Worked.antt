@@ -2,7 +2,6 @@
 -- supervisor's, 33 pages, and two partitions.
 use Rattle.std.specs.Prelude.{ℕ, ◌*◌, List, [], ◌∷◌, replicate}
 use Rattle.dataset.specs.Format.{blank_set, set_rules}
-use Rattle.model.specs.declared.shape.FrameRecord.{FrameRecord}
 use Rattle.model.specs.declared.shape.Partition.{Partition}
 use Rattle.model.specs.declared.calls.Answer.{Answer}
 use Rattle.model.specs.declared.calls.Answer.TheVariants.{Byte, Done, Refused}

@@ -1,5 +1,5 @@
 -- The bytes of a data set of blank slots: how the code lays them out, and what they mean.
-use Rattle.std.proofs.Common.{◌≡◌, ℕ, ◌+◌, ◌*◌, ◌^◌, ◌<◌, ◌≤◌, true, false, cond, ◌&&◌, eqb, ltb, ◌⊎◌, List, length, get_or, replicate, Ok, Err, Vec, sym, refl, ap, ◌∙◌, inl, inr, arith}
+use Rattle.std.proofs.Common.{◌≡◌, ℕ, ◌+◌, ◌*◌, ◌<◌, ◌≤◌, false, cond, ◌&&◌, eqb, ltb, List, length, replicate, Ok, Vec, sym, refl, ap, ◌∙◌, inl, inr, arith}
 use Rattle.std.specs.Vec.{with_items}
 use Rattle.std.specs.declared.alloc.Global.{Global}
 use Rattle.std.proofs.lemmas.List.{length-replicate, get_or-replicate, with_items_is}
@@ -7,7 +7,7 @@ use Rattle.std.proofs.lemmas.Bool.{lt-ltb, le-leb}
 use Rattle.storage.specs.Bytes.{fits, word, put_word, page, zeros}
 use Rattle.storage.specs.Laws.{Within}
 use Rattle.storage.proofs.Over.{laws, elsewhere}
-use Rattle.dataset.specs.Format.{Formed, mark_of, opened, slots_of, slots_in, place_of, set_rules, blank_set, Blank}
+use Rattle.dataset.specs.Format.{Formed, mark_of, slots_of, slots_in, place_of, blank_set, Blank}
 use Rattle.dataset.specs.Formed.{formed_opened}
 
 -- The area with the first number put, and with both.

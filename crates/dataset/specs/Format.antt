@@ -1,9 +1,8 @@
 -- The format of a page data set: the number of slots and the page size, 4 bytes each, a mark byte for each slot, then
 -- 2,048 bytes for each slot. Mark 0 is blank, 1 written, 2 bad.
-use Rattle.std.specs.Prelude.{◌≡◌, ℕ, zero, suc, ◌+◌, ◌*◌, ◌<◌, ◌≤◌, Bool, true, false, cond, ◌&&◌, List, length, set, replicate, is_ok, Some, None, Ok, Err, Option, Result, ◌==◌, nat_le, nat_lt, slice_index, slice_set}
+use Rattle.std.specs.Prelude.{◌≡◌, ℕ, zero, suc, ◌+◌, ◌*◌, ◌<◌, ◌≤◌, Bool, true, false, cond, ◌&&◌, List, length, replicate, is_ok, Some, None, Ok, Err, Option, Result, ◌==◌, nat_le, nat_lt, slice_index, slice_set}
 use Rattle.pages.specs.declared.fault.Fault.{Fault}
 use Rattle.pages.specs.declared.fault.StoreRefusal.{StoreRefusal}
-use Rattle.pages.specs.declared.fault.StoreRefusal.TheVariants as StoreRefusal
 use Rattle.pages.specs.Store.{Rules}
 use Rattle.storage.specs.Bytes.{word, page, put_page, put_word, zeros}
 use Rattle.dataset.specs.declared.refusal.OpenRefusal.{OpenRefusal}

@@ -1,9 +1,9 @@
 -- What is known of an area that opening accepts, and which writes leave it so.
-use Rattle.std.specs.Prelude.{◌≡◌, ℕ, ◌+◌, ◌*◌, ◌<◌, ◌≤◌, Bool, true, false, cond, ◌⊎◌, List, length, is_ok, Ok, Err, Result, ◌==◌, ◌≢◌, nat_le, slice_set, refl}
-use Rattle.std.proofs.Common.{sym, ap, ◌∙◌, inl, inr, arith}
-use Rattle.std.proofs.lemmas.List.{get_or-set_same, get_or-set_other, length-set}
+use Rattle.std.specs.Prelude.{◌≡◌, ℕ, ◌+◌, ◌*◌, ◌<◌, ◌≤◌, Bool, true, false, cond, List, length, is_ok, Ok, Err, Result, ◌==◌, ◌≢◌, nat_le, slice_set, refl}
+use Rattle.std.proofs.Common.{ap, ◌∙◌, inl, inr, arith}
+use Rattle.std.proofs.lemmas.List.{get_or-set_same, get_or-set_other}
 use Rattle.std.proofs.lemmas.Bool.{both_ways, cases_eq, le-leb, leb-true, eq-eqb, eqb-true}
-use Rattle.storage.specs.Bytes.{word, page, put_page}
+use Rattle.storage.specs.Bytes.{word, put_page}
 use Rattle.storage.specs.Laws.{Within}
 use Rattle.storage.proofs.Over.{laws, elsewhere}
 use Rattle.dataset.specs.declared.refusal.OpenRefusal.{OpenRefusal}

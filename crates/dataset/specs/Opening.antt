@@ -1,12 +1,11 @@
 -- What opening an area finds, test by test, and what is known of an area that it accepts.
-use Rattle.std.specs.Prelude.{◌≡◌, ℕ, zero, suc, ◌+◌, ◌-◌, ◌*◌, ◌<◌, ◌≤◌, Bool, true, false, cond, leb, ◌⊎◌, List, length, Some, None, Ok, Err, Option, Result, ◌==◌, ◌≢◌, nat_le, nat_lt, refl}
+use Rattle.std.specs.Prelude.{◌≡◌, ℕ, zero, suc, ◌+◌, ◌*◌, ◌<◌, ◌≤◌, Bool, true, false, cond, leb, List, length, Some, None, Ok, Err, ◌==◌, ◌≢◌, nat_le, nat_lt, refl}
 use Rattle.std.proofs.Math.Path.{sym}
 use Rattle.std.proofs.Common.{ap, ◌∙◌, inl, inr, arith, add-one}
-use Rattle.std.proofs.lemmas.Bool.{cases_lt, cases_eq, cases_Bool, both_ways, lt-ltb, le-ltb, ltb-true, le-leb, lt-leb, leb-true, eq-eqb, ne_eqb, eqb-true}
+use Rattle.std.proofs.lemmas.Bool.{cases_lt, cases_Bool, both_ways, lt-ltb, ltb-true, le-leb, lt-leb, leb-true, eq-eqb, ne_eqb}
 use Rattle.storage.specs.Bytes.{word, word_at}
-use Rattle.dataset.specs.declared.refusal.OpenRefusal.{OpenRefusal}
 use Rattle.dataset.specs.declared.refusal.OpenRefusal.TheVariants.{TooShort, OtherPageSize, TooManySlots, OtherLength, UnknownMark}
-use Rattle.dataset.specs.Format.{mark_of, marks_known, opened, slots_in}
+use Rattle.dataset.specs.Format.{mark_of, marks_known, opened}
 
 -- Marks one by one.
 pub known_none : (b : List ℕ) → marks_known b 0 ≡ true

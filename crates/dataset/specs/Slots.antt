@@ -1,5 +1,5 @@
 -- The slots of a data set: what a write leaves of each.
-use Rattle.std.specs.Prelude.{◌≡◌, ℕ, ◌+◌, ◌-◌, ◌*◌, ◌<◌, ◌≤◌, Bool, true, false, cond, ◌&&◌, ◌⊎◌, List, length, take, drop, set, replicate, Some, None, Ok, Err, Option, Vec, ◌==◌, ◌≢◌, nat_lt, slice_set, refl}
+use Rattle.std.specs.Prelude.{◌≡◌, ℕ, ◌+◌, ◌-◌, ◌*◌, ◌<◌, ◌≤◌, Bool, true, false, cond, ◌&&◌, ◌⊎◌, List, length, take, drop, set, replicate, Some, None, Ok, Option, Vec, ◌==◌, ◌≢◌, nat_lt, slice_set, refl}
 use Rattle.std.proofs.Common.{sym, ap, ◌∙◌, inl, inr, arith}
 use borrow.Rule.Slice.PartMut.{put_mid}
 use Rattle.std.specs.Vec.{with_items, with_item}
@@ -7,7 +7,7 @@ use Rattle.std.specs.declared.alloc.Global.{Global}
 use Rattle.std.proofs.lemmas.List.{length-set, with_items_is}
 use Rattle.std.proofs.lemmas.Bool.{cases_eq, cases_lt, eq-eqb, ne_eqb, lt-ltb, le-ltb}
 use Rattle.pages.specs.declared.fault.StoreRefusal.{StoreRefusal}
-use Rattle.pages.specs.Store.{Rules, Lawful, Usable, refusal_at}
+use Rattle.pages.specs.Store.{Lawful, Usable, refusal_at}
 use Rattle.pages.proofs.Refusals.{none_usable}
 use Rattle.storage.specs.Bytes.{word, page, put_page, zeros}
 use Rattle.storage.specs.Laws.{Within}

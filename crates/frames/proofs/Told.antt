@@ -1,13 +1,13 @@
 -- After any list of calls the frames held are those that the answers say.
-use Rattle.std.proofs.Common.{◌≡◌, ℕ, ◌+◌, ◌<◌, ◌≤◌, Bool, true, false, cond, ◌&&◌, eqb, ltb, ◌⊎◌, List, [], ◌∷◌, ◌++◌, length, get_or, drop, Some, None, Option, sym, refl, ap, ◌∙◌, subst, inl, inr, arith}
+use Rattle.std.proofs.Common.{◌≡◌, ℕ, ◌+◌, ◌<◌, ◌≤◌, Bool, true, false, cond, ◌&&◌, eqb, List, [], ◌∷◌, ◌++◌, length, get_or, drop, Some, None, Option, sym, refl, ap, ◌∙◌, subst, inl, inr, arith}
 use Rattle.std.proofs.lemmas.List.{at_drop_more, at_drop_all, append_assoc, append-nil}
-use Rattle.std.proofs.lemmas.Bool.{cases_Bool, cases_eq, cases_lt, eq-eqb, ne_eqb, eqb-true, eqb-false, and_left, and_right, and_parts, cond-true, cond-false}
+use Rattle.std.proofs.lemmas.Bool.{cases_eq, eq-eqb, ne_eqb, and_left, cond-false}
 use Rattle.frames.specs.declared.calls.Call.{Call}
 use Rattle.frames.specs.declared.calls.Call.TheVariants.{Enter, Return, Leave, Touch, Empty, Take}
 use Rattle.frames.specs.declared.calls.Answer.{Answer}
-use Rattle.frames.specs.declared.calls.Answer.TheVariants.{Said, Done, Took as TookFrame}
+use Rattle.frames.specs.declared.calls.Answer.TheVariants.{Took as TookFrame}
 use Rattle.frames.specs.Policy.{Rules, Lawful, Picks, free, holds}
-use Rattle.frames.specs.Runs.{Called, called_of, Ran, run, held_after, held_by, HeldAsTold}
+use Rattle.frames.specs.Runs.{called_of, Ran, run, held_after, held_by, HeldAsTold}
 
 -- a count that was set to 1 where a test is true
 set_one : (b : Bool) (n n' : ℕ) → n' ≡ cond b 1 n → eqb n' 1 ≡ cond b true (eqb n 1)

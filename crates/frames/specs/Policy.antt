@@ -1,5 +1,5 @@
 -- What a frame policy means: how often it holds each frame, and what each call leaves.
-use Rattle.std.specs.Prelude.{◌≡◌, ℕ, ◌<◌, ◌≤◌, Bool, true, false, cond, not, ◌&&◌, ◌⊎◌, List, length, Some, None, Option, ◌==◌, nat_lt, slice_index}
+use Rattle.std.specs.Prelude.{◌≡◌, ℕ, ◌≤◌, Bool, cond, ◌&&◌, ◌⊎◌, List, length, Some, None, Option, ◌==◌, nat_lt, slice_index}
 use Rattle.frames.specs.Keys.{reference_off}
 
 -- What Take answers and leaves: a frame or none, the keys, the policy.

@@ -1,10 +1,10 @@
 -- Lists of calls, and what their answers say of the frames held.
-use Rattle.std.specs.Prelude.{◌≡◌, ℕ, ◌≤◌, Bool, true, false, cond, not, ◌&&◌, ◌||◌, List, [], ◌∷◌, Some, None, Option, ◌==◌}
+use Rattle.std.specs.Prelude.{◌≡◌, ℕ, ◌≤◌, Bool, true, false, cond, ◌&&◌, List, [], ◌∷◌, Some, None, ◌==◌}
 use Rattle.frames.specs.declared.calls.Call.{Call}
 use Rattle.frames.specs.declared.calls.Call.TheVariants.{Enter, Return, Leave, Touch, Empty, Take}
 use Rattle.frames.specs.declared.calls.Answer.{Answer}
 use Rattle.frames.specs.declared.calls.Answer.TheVariants.{Said, Done, Took as TookFrame}
-use Rattle.frames.specs.Policy.{Rules, Took, free, holds}
+use Rattle.frames.specs.Policy.{Rules, free, holds}
 
 -- what a call answers and leaves
 pub record Called (M : Type 0) : Type 0 where

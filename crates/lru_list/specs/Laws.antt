@@ -1,9 +1,9 @@
 -- What is certain of the policy by recency.
-use Rattle.std.specs.Prelude.{◌≡◌, ℕ, zero, suc, ◌+◌, ◌<◌, ◌≤◌, Bool, true, false, cond, ◌&&◌, ◌⊎◌, List, [], ◌∷◌, ◌++◌, Some, None, ◌==◌, nat_lt, refl}
+use Rattle.std.specs.Prelude.{◌≡◌, ℕ, ◌+◌, Bool, true, false, cond, ◌&&◌, List, [], ◌∷◌, ◌++◌, ◌==◌, nat_lt, refl}
 use Rattle.std.proofs.Common.{sym, ap, ◌∙◌, inl, inr, arith}
 use Rattle.std.proofs.lemmas.Bool.{cases_eq, cases_Bool, eq-eqb, ne_eqb, eqb-true, ltb-true, and_parts, cond-true, cond-false}
 use Rattle.frames.specs.Held.{times_in, without, Once}
-use Rattle.frames.specs.Policy.{Rules, Lawful, Picks, KeysKept, free}
+use Rattle.frames.specs.Policy.{Lawful, Picks, KeysKept, free}
 use Rattle.frames.proofs.Held.{share, share_same, share_other, times_append, without_same, without_other}
 use Rattle.lru_list.specs.Rules.{entered, touched, taken, lru_rules}
 

@@ -1,5 +1,5 @@
 -- The policy by recency: the frames in the order of their use, the one used last at the end.
-use Rattle.std.specs.Prelude.{ℕ, Bool, cond, ◌&&◌, List, [], ◌∷◌, ◌++◌, Some, None, ◌==◌, nat_lt}
+use Rattle.std.specs.Prelude.{ℕ, cond, ◌&&◌, List, [], ◌∷◌, ◌++◌, Some, None, ◌==◌, nat_lt}
 use Rattle.frames.specs.Held.{times_in, without, Once}
 use Rattle.frames.specs.Policy.{Rules, Took}
 

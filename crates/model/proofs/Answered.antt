@@ -1,33 +1,23 @@
 -- Each call answers as the flat machine does, and leaves the two side by side.
-use Rattle.std.proofs.Common.{◌≡◌, ℕ, zero, suc, ◌+◌, ◌-◌, ◌*◌, ◌/◌, ◌%◌, ◌^◌, ◌<◌, ◌≤◌, Bool, true, false, cond, not, ◌&&◌, ◌||◌, eqb, ltb, leb, ◌⊎◌, List, [], ◌∷◌, length, get_or, set, Some, None, Ok, Err, Option, Result, sym, refl, ap, ◌∙◌, subst, inl, inr, arith}
+use Rattle.std.proofs.Common.{◌≡◌, ℕ, ◌+◌, ◌-◌, ◌*◌, ◌/◌, ◌%◌, ◌<◌, ◌≤◌, Bool, true, false, cond, ◌&&◌, ◌||◌, eqb, ltb, leb, ◌⊎◌, List, get_or, Some, None, Ok, Err, Option, Result, sym, refl, ap, ◌∙◌, subst, inl, inr, arith}
 use Rattle.std.proofs.lemmas.List.{get_or-set_same, get_or-set_other}
-use Rattle.std.proofs.lemmas.Bool.{and_from, and_parts, cases_eq, cases_lt, eq-eqb, eqb-false, eqb-true, false≢true, le-ltb, lt-ltb, ne_eqb}
-use Rattle.frames.specs.Keys.{changed, reference_on}
-use Rattle.model.specs.declared.calls.Answer.{Answer}
-use Rattle.model.specs.declared.calls.Answer.TheVariants.{Byte, Done, Refused}
-use Rattle.model.specs.declared.calls.Call.{Call}
-use Rattle.model.specs.declared.calls.Call.TheVariants.{Load, Store, Fix, Free, Purge, Settle}
+use Rattle.std.proofs.lemmas.Bool.{and_from, cases_eq, cases_lt, eq-eqb, false≢true}
 use Rattle.model.specs.declared.calls.Refusal.{Refusal}
-use Rattle.model.specs.declared.calls.Refusal.TheVariants.{Sizes, Key, Addressing, Protection, FixLimit, NotFixed, AllFixed, Tables}
-use Rattle.model.specs.declared.shape.FrameRecord.{FrameRecord}
-use Rattle.model.specs.Flat.{Flat, byte_set, fixed_pages, fixes_set, flat, flat_done, flat_fix, flat_free, flat_full, flat_load, flat_loaded, flat_room, flat_store}
-use Rattle.model.specs.Law.{After, Belongs, Consistent, Fits, Fixed, HasFixed, HeldOnce, InTables, Pageable, Placed, Saved, Stands, answered}
+use Rattle.model.specs.declared.calls.Refusal.TheVariants.{Sizes, Key, Protection, FixLimit, NotFixed, AllFixed, Tables}
+use Rattle.model.specs.Flat.{Flat, fixed_pages, flat_fix, flat_free, flat_full, flat_load, flat_room, flat_store}
+use Rattle.model.specs.Law.{Belongs, Consistent, Fixed, HasFixed, HeldOnce, InTables, Pageable, Placed, Stands}
 use Rattle.model.specs.Layout.{bit15, controls_of, counted, entries_are, entry_at, entry_for, entry_is, entry_should, fixed_in, fixes_in, frame_of, frames_are, key_of, no_page, out_entry, page_in, segment_at, segment_entries, segments, segments_are}
-use Rattle.model.specs.Refusals.{Request, and_then, decode_fix, decode_free, decode_load, decode_purge, decode_settle, decode_store, fixes_of, full, page_key, right_length, room_and_tables, tables_right, unless, where_is}
-use Rattle.model.specs.Steps.{asked, brought, brought_frame, byte_answer, change_on, done_answer, fix, fixed_in1, fixing, free, freed_in, freeing, load, loaded_in, loading, purge, purged, purging, real_or, settle, store, stored_in, storing, sweeping, swept, worked}
+use Rattle.model.specs.Refusals.{Request, and_then, decode_fix, decode_free, decode_load, decode_store, fixes_of, full, page_key, right_length, room_and_tables, tables_right, unless, where_is}
+use Rattle.model.specs.Steps.{asked, brought, real_or}
 use Rattle.model.specs.World.{Config, LawfulParts, Parts, World}
-use Rattle.model.proofs.Beside.{Mem, Swept, brought_mem, frames_right, swept_mem, tables_right_lem}
-use Rattle.model.proofs.Decoded.{Reached, fix_ok, free_ok, key_ok, load_ok, store_ok}
-use Rattle.model.proofs.Find.{all_entries, all_segments, frame_is_lem, frame_none, frame_some}
-use Rattle.model.proofs.Kept.{fixed_frame, loaded_own, ready_page, same_pages, stored_own}
-use Rattle.model.proofs.Memory.{Absent, Content, Counts, Entries, backing, bit_is, change_on_lem, changed_on, changed_set, content_keys, content_pages, entries_pages}
-use Rattle.model.proofs.Moved.{counted_to, stored_content, stored_entries, total_falls, total_rises, total_stays}
+use Rattle.model.proofs.Beside.{Mem, brought_mem, tables_right_lem}
+use Rattle.model.proofs.Decoded.{Reached, key_ok}
+use Rattle.model.proofs.Find.{frame_none, frame_some}
 use Rattle.model.proofs.Own.{real_is, real_page}
-use Rattle.model.proofs.Ready.{Ready, ready}
+use Rattle.model.proofs.Ready.{Ready}
 use Rattle.model.proofs.Walks.{walks_to}
-use Rattle.storage.specs.Bytes.{half, page, word, zeros}
+use Rattle.storage.specs.Bytes.{half, page, word}
 use Rattle.storage.proofs.Over.{laws}
-use Rattle.tables.specs.Bits.{half_bits}
 use Rattle.tables.specs.declared.Controls.{Controls}
 use Rattle.tables.specs.Walk.{walk}
 

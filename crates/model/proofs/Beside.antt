@@ -1,22 +1,21 @@
 -- A machine beside the flat machine: a page brought in, and a sweep, keep them side by side.
-use Rattle.std.proofs.Common.{◌≡◌, ℕ, zero, suc, ◌+◌, ◌-◌, ◌*◌, ◌/◌, ◌%◌, ◌^◌, ◌<◌, ◌≤◌, Bool, true, false, cond, not, ◌&&◌, eqb, ltb, leb, ◌⊎◌, List, length, get_or, set, Some, None, Option, sym, refl, ap, ◌∙◌, subst, inl, inr, arith}
+use Rattle.std.proofs.Common.{◌≡◌, ℕ, zero, suc, ◌+◌, ◌-◌, ◌*◌, ◌/◌, ◌<◌, ◌≤◌, Bool, true, false, cond, not, ◌&&◌, eqb, List, length, get_or, Some, None, Option, sym, refl, ap, ◌∙◌, inl, inr, arith}
 use Rattle.std.proofs.lemmas.List.{get_or-set_same, get_or-set_other}
-use Rattle.std.proofs.lemmas.Bool.{and_from, and_parts, cases_Bool, cases_eq, cases_lt, eq-eqb, eqb-false, eqb-true, ne_eqb, not-false, not-true}
+use Rattle.std.proofs.lemmas.Bool.{and_from, and_parts, cases_eq, eqb-false, ne_eqb, not-true}
 use Rattle.frames.specs.Keys.{access_of, changed}
-use Rattle.model.specs.declared.shape.FrameRecord.{FrameRecord}
-use Rattle.model.specs.Law.{Consistent, Fits, Pageable}
+use Rattle.model.specs.Law.{Consistent, Pageable}
 use Rattle.model.specs.Layout.{bit15, entry_at, entry_for, fixed_in, fixes_in, frame_is, frame_of, key_of, no_page, page_in, page_is, segment_at, segments}
-use Rattle.model.specs.Refusals.{Request, full, others_right, tables_right, where_is}
-use Rattle.model.specs.Steps.{brought, brought_frame, change_off, emptied, emptying, faulted, put_out, read_in, settled_in, settling, swept, taken, taken_frame, taking}
-use Rattle.model.specs.World.{Config, LawfulParts, Parts, World}
-use Rattle.model.proofs.Fault.{BodyOf, emptied_body, handed_to, taken_body}
+use Rattle.model.specs.Refusals.{tables_right, where_is}
+use Rattle.model.specs.Steps.{brought, emptied, emptying, faulted, put_out, read_in, settled_in, settling, swept, taken, taken_frame, taking}
+use Rattle.model.specs.World.{LawfulParts, Parts, World}
+use Rattle.model.proofs.Fault.{emptied_body, handed_to, taken_body}
 use Rattle.model.proofs.Find.{all_frames, frame_none, frame_some, is_page}
-use Rattle.model.proofs.Kept.{settled_long, settled_own}
-use Rattle.model.proofs.Memory.{Absent, Content, Counts, Entries, backing, bit_is, change_off_lem, content_keys, out_other, out_same, q_listed, settled_content, settled_entries, taken_changed, vacated_bit, vacated_content, vacated_counts, vacated_entries}
+use Rattle.model.proofs.Kept.{settled_own}
+use Rattle.model.proofs.Memory.{Absent, Content, Counts, Entries, backing, change_off_lem, content_keys, out_other, out_same, settled_content, settled_entries, taken_changed, vacated_bit, vacated_content, vacated_counts, vacated_entries}
 use Rattle.model.proofs.Moved.{connected_content, connected_counts, connected_entries}
-use Rattle.model.proofs.Own.{in_table, read_in_lem, real_page}
-use Rattle.model.proofs.Place.{frame_fits, listed}
-use Rattle.model.proofs.Ready.{filling_long, hollow_body, hollow_long, into_long, into_pageable, p_usable}
+use Rattle.model.proofs.Own.{read_in_lem, real_page}
+use Rattle.model.proofs.Place.{frame_fits}
+use Rattle.model.proofs.Ready.{filling_long, into_long, p_usable}
 use Rattle.storage.specs.Bytes.{frame, half, page, put_half, word, zeros}
 use Rattle.storage.proofs.Over.{laws}
 

@@ -1,21 +1,19 @@
 -- The page fault keeps the machine's own parts, whatever main storage holds; and the frame that is taken is a pageable one.
-use Rattle.std.proofs.Common.{◌≡◌, ℕ, ◌+◌, ◌-◌, ◌*◌, ◌/◌, ◌%◌, ◌<◌, ◌≤◌, Bool, true, false, cond, not, ◌&&◌, eqb, ltb, leb, ◌⊎◌, List, length, get_or, set, Some, None, Option, sym, refl, ap, ◌∙◌, subst, inl, inr, arith}
+use Rattle.std.proofs.Common.{◌≡◌, ℕ, ◌-◌, ◌*◌, ◌/◌, ◌<◌, ◌≤◌, Bool, true, false, cond, not, ◌&&◌, eqb, ltb, List, length, get_or, set, Some, None, Option, sym, refl, ap, ◌∙◌, subst, inl, inr, arith}
 use Rattle.std.proofs.lemmas.List.{get_or-set_same, get_or-set_other, length-set}
-use Rattle.std.proofs.lemmas.Bool.{and_from, both_ways, cases_eq, cases_lt, eq-eqb, eqb-false, eqb-true, false≢true, le-leb, lt-ltb, ltb-false, ne_eqb, not-false, not-true}
+use Rattle.std.proofs.lemmas.Bool.{and_from, cases_eq, cases_lt, eq-eqb, eqb-false, eqb-true, false≢true, le-leb, lt-ltb, ltb-false, ne_eqb, not-false, not-true}
 use Rattle.frames.specs.Keys.{access_of, changed}
 use Rattle.frames.specs.Policy as policies
 use Rattle.model.specs.declared.shape.FrameRecord.{FrameRecord}
 use Rattle.model.specs.Law.{Consistent, Fits, Holding, Keyed, Pageable, Paired, Slots, Table}
-use Rattle.model.specs.Layout.{counted, entry_at, fixed_in, fixes_in, key_of, no_page, page_in}
-use Rattle.model.specs.Steps.{chosen, connected, emptied, emptying, faulted, filled, put_out, taken, taken_frame, taking}
-use Rattle.model.specs.World.{Config, GoodParts, LawfulParts, Parts, World}
+use Rattle.model.specs.Layout.{fixed_in, fixes_in, key_of, no_page, page_in}
+use Rattle.model.specs.Steps.{chosen, emptied, emptying, faulted, put_out, taken, taken_frame, taking}
+use Rattle.model.specs.World.{Config, LawfulParts, Parts, World}
 use Rattle.model.proofs.Find.{counted_room}
-use Rattle.model.proofs.Own.{access_set, fixes_here, fixes_there, holding_same, in_table, keyed_keys, keyed_put, page_here, page_there, real_page, slots_put, table_put, taken_access}
+use Rattle.model.proofs.Own.{fixes_here, fixes_there, holding_same, in_table, keyed_keys, keyed_put, page_here, page_there, real_page, slots_put, table_put, taken_access}
 use Rattle.model.proofs.Place.{frame_fits}
-use Rattle.pages.specs.Store as stores
 use Rattle.storage.specs.Bytes.{frame}
 use Rattle.storage.proofs.Over.{laws}
-use Rattle.translation.specs.Translator as translators
 
 -- All of the machine's own parts but the policy.
 pub record Body {T P S : Type 0} (r : Parts T P S) (c : Config) (ks : List ℕ) (rs : List FrameRecord) (t : T) (st : S) : Type 0 where

@@ -1,9 +1,9 @@
 -- Searches and counts: the frame that has a page, what a sweep of tests says of each frame, how many pass a test.
-use Rattle.std.proofs.Common.{◌≡◌, ℕ, zero, suc, ◌+◌, ◌-◌, ◌*◌, ◌/◌, ◌<◌, ◌≤◌, Bool, true, false, cond, ◌&&◌, eqb, ltb, leb, ◌⊎◌, List, length, get_or, Some, None, Option, sym, refl, ap, ◌∙◌, subst, inl, inr, arith}
-use Rattle.std.proofs.lemmas.Bool.{and_from, and_parts, cases_eq, cases_lt, eq-eqb, eqb-false, eqb-true, leb-true, ltb-true, ltb-false, ne_eqb}
+use Rattle.std.proofs.Common.{◌≡◌, ℕ, zero, suc, ◌+◌, ◌-◌, ◌*◌, ◌/◌, ◌<◌, ◌≤◌, Bool, true, false, cond, ◌&&◌, eqb, ltb, leb, List, Some, None, Option, sym, refl, ap, ◌∙◌, subst, inl, inr, arith}
+use Rattle.std.proofs.lemmas.Bool.{and_from, and_parts, cases_eq, eq-eqb, eqb-false, eqb-true, leb-true, ltb-true, ne_eqb}
 use Rattle.model.specs.declared.shape.FrameRecord.{FrameRecord}
-use Rattle.model.specs.Law.{Fits, Pageable, Table}
-use Rattle.model.specs.Layout.{counted, entries_are, entry_at, entry_is, entry_should, fixes_in, found_in, frame_is, frame_of, frames_are, named, no_page, page_in, page_is, segment_at, segment_is, segment_word, segments_are}
+use Rattle.model.specs.Law.{Pageable, Table}
+use Rattle.model.specs.Layout.{counted, entries_are, entry_at, entry_is, entry_should, found_in, frame_is, frame_of, frames_are, named, no_page, page_in, page_is, segment_at, segment_is, segment_word, segments_are}
 use Rattle.model.specs.World.{Config}
 use Rattle.storage.specs.Bytes.{half, word}
 

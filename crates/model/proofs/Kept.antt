@@ -1,21 +1,21 @@
 -- Every call keeps the machine's own parts, whatever main storage holds, and tells its answer or the first refusal.
-use Rattle.std.proofs.Common.{◌≡◌, ℕ, zero, suc, ◌+◌, ◌-◌, ◌*◌, ◌/◌, ◌%◌, ◌<◌, ◌≤◌, Bool, true, false, cond, not, ◌&&◌, eqb, ltb, leb, ◌⊎◌, List, [], ◌∷◌, length, get_or, set, Some, None, Ok, Err, Option, Result, sym, refl, ap, ◌∙◌, subst, inl, inr, arith}
-use Rattle.std.proofs.lemmas.List.{get_or-set_same, get_or-set_other, length-set}
-use Rattle.std.proofs.lemmas.Bool.{and_from, and_parts, cases_eq, cases_lt, eq-eqb, eqb-false, eqb-true, lt-ltb, ne_eqb, not-true}
+use Rattle.std.proofs.Common.{◌≡◌, ℕ, zero, suc, ◌+◌, ◌-◌, ◌*◌, ◌/◌, ◌<◌, ◌≤◌, Bool, true, false, cond, not, ◌&&◌, eqb, ◌⊎◌, List, [], ◌∷◌, length, get_or, set, Some, None, Ok, Err, Option, Result, sym, refl, ap, ◌∙◌, subst, inl, inr, arith}
+use Rattle.std.proofs.lemmas.List.{length-set}
+use Rattle.std.proofs.lemmas.Bool.{and_from, and_parts, cases_eq, eq-eqb, eqb-false, eqb-true, lt-ltb, ne_eqb, not-true}
 use Rattle.frames.specs.Keys.{access_of, changed, reference_on, referred}
 use Rattle.frames.specs.Policy as policies
 use Rattle.model.specs.declared.calls.Call.{Call}
 use Rattle.model.specs.declared.calls.Call.TheVariants.{Load, Store, Fix, Free, Purge, Settle}
 use Rattle.model.specs.declared.calls.Refusal.{Refusal}
 use Rattle.model.specs.declared.shape.FrameRecord.{FrameRecord}
-use Rattle.model.specs.Law.{Consistent, Fits, Holding, Pageable, Paired, Steady, Told, ToldBy, answered, first_refusal, handed, refused_by}
-use Rattle.model.specs.Layout.{controls_of, entry_at, entry_is, entry_should, fixes_in, frame_is, key_of, no_page, page_in, segment_at, segment_entries, segment_word, segments}
-use Rattle.model.specs.Refusals.{Request, decode_fix, decode_free, decode_load, decode_purge, decode_settle, decode_store, fixes_of, full, where_is}
-use Rattle.model.specs.Steps.{brought, byte_answer, done_answer, brought_frame, change_off, change_on, fix, fixed_in1, fixing, free, freed_in, freeing, load, loaded_in, loading, purge, purged, purging, put_out, settle, settled_in, settling, store, stored_in, storing, sweeping, swept, worked}
-use Rattle.model.specs.World.{Config, LawfulParts, Parts, World}
-use Rattle.model.proofs.Decoded.{Reached, fix_ok, free_ok, load_ok, purge_ok, settle_ok, store_ok}
-use Rattle.model.proofs.Fault.{Body, BodyOf, Brought, body, body_keys, body_out, whole}
-use Rattle.model.proofs.Find.{each_entry, each_frame, each_segment, frame_some}
+use Rattle.model.specs.Law.{Consistent, Holding, Pageable, Steady, Told, ToldBy, first_refusal, handed, refused_by}
+use Rattle.model.specs.Layout.{entry_at, entry_should, fixes_in, no_page, page_in, segment_at, segment_entries, segment_word, segments}
+use Rattle.model.specs.Refusals.{Request, decode_fix, decode_free, decode_load, decode_purge, decode_settle, decode_store, fixes_of, where_is}
+use Rattle.model.specs.Steps.{brought, byte_answer, done_answer, brought_frame, change_off, change_on, fix, fixed_in1, fixing, free, freed_in, freeing, load, loaded_in, loading, purge, purged, purging, settle, settled_in, settling, store, stored_in, storing, sweeping, swept, worked}
+use Rattle.model.specs.World.{LawfulParts, Parts, World}
+use Rattle.model.proofs.Decoded.{fix_ok, free_ok, load_ok, purge_ok, settle_ok, store_ok}
+use Rattle.model.proofs.Fault.{Body, body, body_keys, body_out, whole}
+use Rattle.model.proofs.Find.{each_entry, each_segment, frame_some}
 use Rattle.model.proofs.Own.{access_change_off, access_change_on, access_on, access_set, agrees_frame, asked_paired, fixes_here, fixes_there, holding_same, in_table, keyed_put, page_here, page_there, paired_same, real_page, table_count}
 use Rattle.model.proofs.Place.{frame_fits}
 use Rattle.model.proofs.Ready.{Ready, ready}

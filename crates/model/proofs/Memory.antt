@@ -1,22 +1,21 @@
 -- What ties main storage, the tables and the slots to the flat machine's bytes and counts; and what keeps it, step by step.
-use Rattle.std.proofs.Common.{◌≡◌, ℕ, ◌+◌, ◌-◌, ◌*◌, ◌/◌, ◌%◌, ◌^◌, ◌<◌, ◌≤◌, Bool, true, false, cond, not, ◌&&◌, eqb, ltb, leb, ◌⊎◌, List, length, get_or, set, Some, None, Option, sym, refl, ap, ◌∙◌, subst, inl, inr, arith}
-use Rattle.std.proofs.lemmas.List.{get_or-set_same, get_or-set_other, length-set}
-use Rattle.std.proofs.lemmas.Bool.{cases_eq, cases_lt, eq-eqb, ne_eqb, both_ways}
+use Rattle.std.proofs.Common.{◌≡◌, ℕ, ◌+◌, ◌-◌, ◌*◌, ◌/◌, ◌%◌, ◌^◌, ◌<◌, ◌≤◌, true, false, cond, eqb, ltb, ◌⊎◌, List, length, get_or, set, Some, None, sym, refl, ap, ◌∙◌, subst, inl, inr, arith}
+use Rattle.std.proofs.lemmas.List.{get_or-set_same, get_or-set_other}
+use Rattle.std.proofs.lemmas.Bool.{cases_eq, eq-eqb, ne_eqb}
 use Rattle.frames.specs.Keys.{access_of, changed, reference_off, reference_on}
 use Rattle.frames.specs.Policy as policies
 use Rattle.model.specs.declared.shape.FrameRecord.{FrameRecord}
 use Rattle.model.specs.Flat.{fixed_pages}
 use Rattle.model.specs.Law.{Fits, Keyed, Pageable, Slots, Table}
 use Rattle.model.specs.Layout.{bit15, entry_at, fixed_in, fixes_in, key_of, no_page, page_in, segment_at, segment_entries, segment_word, segments}
-use Rattle.model.specs.Steps.{change_off, change_on, put_out, read_in}
+use Rattle.model.specs.Steps.{change_off, change_on, put_out}
 use Rattle.model.specs.World.{Config}
-use Rattle.model.proofs.Find.{counted_same, counted_up}
-use Rattle.model.proofs.Own.{fixes_here, fixes_there, in_table, page_here, page_there, put_out_lem, read_in_lem, real_page}
-use Rattle.model.proofs.Place.{b_entry, b_long, b_other, b_same, b_segment, e_frame, e_long, e_other, e_same, e_segment, f_long, f_other, f_same, frame_fits, listed}
-use Rattle.model.proofs.Ready.{after, after_entry, after_long, after_other, after_segment}
+use Rattle.model.proofs.Find.{counted_same}
+use Rattle.model.proofs.Own.{fixes_here, fixes_there, in_table, page_here, page_there, put_out_lem}
+use Rattle.model.proofs.Place.{e_frame, e_long, e_other, e_same, e_segment, frame_fits, listed}
 use Rattle.pages.specs.Store as stores
-use Rattle.storage.specs.Bytes.{half, page, put_half, put_page, word, zeros}
-use Rattle.storage.proofs.Over.{elsewhere, laws}
+use Rattle.storage.specs.Bytes.{half, page, put_half, word, zeros}
+use Rattle.storage.proofs.Over.{laws}
 
 -- No pageable frame has page p.
 abbrev pub Absent : Config → List FrameRecord → ℕ → Type 0

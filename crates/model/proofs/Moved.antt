@@ -1,22 +1,20 @@
 -- A page connected, a byte stored, a count changed: what ties storage to the flat machine is kept.
-use Rattle.std.proofs.Common.{◌≡◌, ℕ, ◌+◌, ◌-◌, ◌*◌, ◌/◌, ◌%◌, ◌^◌, ◌<◌, ◌≤◌, Bool, true, false, cond, not, ◌&&◌, eqb, ltb, leb, ◌⊎◌, List, length, get_or, set, Some, None, Option, sym, refl, ap, ◌∙◌, subst, inl, inr, arith}
+use Rattle.std.proofs.Common.{◌≡◌, ℕ, ◌+◌, ◌-◌, ◌*◌, ◌/◌, ◌%◌, ◌<◌, ◌≤◌, true, false, cond, eqb, ltb, List, length, get_or, set, Some, None, sym, ap, ◌∙◌, subst, inl, inr, arith}
 use Rattle.std.proofs.lemmas.List.{get_or-set_same, get_or-set_other, length-set}
-use Rattle.std.proofs.lemmas.Bool.{both_ways, cases_eq, cases_lt, eq-eqb, le-ltb, lt-ltb, ne_eqb}
-use Rattle.frames.specs.Keys.{access_of, changed, reference_on}
+use Rattle.std.proofs.lemmas.Bool.{both_ways, cases_eq, cases_lt}
+use Rattle.frames.specs.Keys.{changed}
 use Rattle.model.specs.declared.shape.FrameRecord.{FrameRecord}
 use Rattle.model.specs.Flat.{fixed_pages}
-use Rattle.model.specs.Law.{Fits, Keyed, Pageable, Slots, Table}
-use Rattle.model.specs.Layout.{bit15, counted, entry_at, fixed_in, fixes_in, key_of, no_page, page_in, segment_at, segment_entries, segment_word, segments}
-use Rattle.model.specs.Steps.{change_on}
+use Rattle.model.specs.Law.{Fits, Pageable, Table}
+use Rattle.model.specs.Layout.{bit15, entry_at, fixed_in, fixes_in, key_of, no_page, page_in, segments}
 use Rattle.model.specs.World.{Config}
 use Rattle.model.proofs.Find.{counted_same, counted_up}
 use Rattle.model.proofs.Memory.{Absent, Content, Counts, Entries, backing}
 use Rattle.model.proofs.Own.{fixes_here, fixes_there, in_table, page_here, page_there, real_page}
-use Rattle.model.proofs.Place.{b_entry, b_long, b_other, b_same, b_segment, e_frame, f_long, f_other, f_same, frames_apart, listed}
-use Rattle.model.proofs.Ready.{after, after_entry, after_long, after_other, after_segment}
+use Rattle.model.proofs.Place.{b_entry, b_long, b_other, b_same, b_segment, e_frame, f_long, f_other, f_same, listed}
+use Rattle.model.proofs.Ready.{after_entry, after_long, after_other, after_segment}
 use Rattle.pages.specs.Store as stores
-use Rattle.storage.specs.Bytes.{half, page, put_half, put_page, word, zeros}
-use Rattle.storage.specs.Laws.{Within}
+use Rattle.storage.specs.Bytes.{half, page, put_half, put_page, zeros}
 use Rattle.storage.proofs.Over.{elsewhere, laws}
 
 -- A page that no frame has comes into frame f, which has none.

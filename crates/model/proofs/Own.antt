@@ -1,13 +1,13 @@
 -- The parts that are the machine's own, one by one: what keeps each of them.
-use Rattle.std.proofs.Common.{◌≡◌, ℕ, ◌+◌, ◌-◌, ◌*◌, ◌/◌, ◌%◌, ◌<◌, ◌≤◌, Bool, true, false, cond, ◌&&◌, eqb, ltb, leb, ◌⊎◌, List, length, get_or, set, Some, None, Ok, Err, Option, Result, sym, refl, ap, ◌∙◌, subst, inl, inr, arith}
+use Rattle.std.proofs.Common.{◌≡◌, ℕ, ◌+◌, ◌-◌, ◌*◌, ◌/◌, ◌%◌, ◌<◌, ◌≤◌, cond, ltb, ◌⊎◌, List, length, get_or, set, Some, None, Ok, Option, Result, sym, refl, ap, ◌∙◌, subst, inl, inr, arith}
 use Rattle.std.proofs.lemmas.List.{get_or-set_same, get_or-set_other, length-set, set_past}
-use Rattle.std.proofs.lemmas.Bool.{and_from, and_left, and_right, cases_eq, cases_lt, eq-eqb, ne_eqb, lt-ltb, le-leb, le-ltb}
-use Rattle.frames.specs.Keys.{access_of, changed, reference_off, reference_on}
+use Rattle.std.proofs.lemmas.Bool.{cases_eq, cases_lt, eq-eqb, lt-ltb, le-ltb}
+use Rattle.frames.specs.Keys.{access_of, reference_off, reference_on}
 use Rattle.frames.specs.Policy as policies
 use Rattle.model.specs.declared.shape.FrameRecord.{FrameRecord}
 use Rattle.model.specs.Law.{Fits, Holding, Keyed, Pageable, Paired, Slots, Table}
 use Rattle.model.specs.Layout.{controls_of, entry_at, entry_for, entry_should, fixes_in, frame_of, key_of, no_page, out_entry, page_in, segment_at, segment_entries, segment_word, segments, vacant}
-use Rattle.model.specs.Steps.{change_off, change_on, chosen, put_out, read_in, real_or}
+use Rattle.model.specs.Steps.{change_off, change_on, put_out, read_in}
 use Rattle.model.specs.World.{Config}
 use Rattle.model.proofs.Walks.{Led, only_small, passes, small, small_named, walk_led, walks_to}
 use Rattle.model.proofs.Find.{frame_some}

@@ -1,20 +1,19 @@
 -- A page that has passed a call's tests is brought in: its frame has it, and the walk leads there.
-use Rattle.std.proofs.Common.{◌≡◌, ℕ, ◌+◌, ◌-◌, ◌*◌, ◌/◌, ◌%◌, ◌^◌, ◌<◌, ◌≤◌, Bool, true, false, cond, not, ◌&&◌, eqb, ltb, leb, ◌⊎◌, List, length, get_or, set, Some, None, Option, sym, refl, ap, ◌∙◌, subst, inl, inr, arith}
+use Rattle.std.proofs.Common.{◌≡◌, ℕ, ◌+◌, ◌-◌, ◌*◌, ◌/◌, ◌%◌, ◌^◌, ◌<◌, ◌≤◌, Bool, true, false, cond, not, eqb, List, length, get_or, Some, None, Option, sym, refl, ap, ◌∙◌, subst, arith}
 use Rattle.std.proofs.lemmas.Bool.{and_parts, cases_eq, eqb-false, eq-eqb, and_from, false≢true, cond_both}
-use Rattle.frames.specs.Keys.{access_of, changed}
-use Rattle.model.specs.declared.shape.FrameRecord.{FrameRecord}
-use Rattle.model.specs.Law.{Consistent, Fits, Pageable, Slots}
-use Rattle.model.specs.Layout.{bit15, entry_at, entry_for, fixed_in, fixes_in, frame_of, key_of, no_page, page_in, page_is, segment_at, segment_entries, segment_word, segments}
-use Rattle.model.specs.Refusals.{Request, full, others_right, tables_right, where_is}
-use Rattle.model.specs.Steps.{brought, brought_frame, connected, emptied, emptying, faulted, filled, put_out, read_in, taken, taken_frame, taking}
+use Rattle.frames.specs.Keys.{changed}
+use Rattle.model.specs.Law.{Consistent, Fits, Pageable}
+use Rattle.model.specs.Layout.{bit15, entry_at, entry_for, fixed_in, key_of, no_page, page_in, segment_at, segment_entries, segment_word, segments}
+use Rattle.model.specs.Refusals.{Request, full, tables_right, where_is}
+use Rattle.model.specs.Steps.{brought, brought_frame, emptied, emptying, faulted, read_in, taken, taken_frame, taking}
 use Rattle.model.specs.World.{Config, LawfulParts, Parts, World}
 use Rattle.model.proofs.Decoded.{Reached}
-use Rattle.model.proofs.Fault.{Body, BodyOf, Brought, emptied_body, faulted_own, handed_to, slot_of}
+use Rattle.model.proofs.Fault.{BodyOf, Brought, emptied_body, faulted_own, handed_to, slot_of}
 use Rattle.model.proofs.Find.{frame_none, frame_some, page_is_lem}
 use Rattle.model.proofs.Own.{read_in_lem}
 use Rattle.model.proofs.Place.{e_long, e_other, e_same, e_segment, f_entry, f_long, f_segment, frame_fits, listed}
 use Rattle.pages.specs.Store as stores
-use Rattle.storage.specs.Bytes.{frame, half, page, put_frame, put_half, put_page, word, zeros}
+use Rattle.storage.specs.Bytes.{frame, half, put_half, put_page, word, zeros}
 use Rattle.storage.proofs.Over.{laws}
 
 -- A page in frame f: its entries name it, and all is consistent.

@@ -1,7 +1,7 @@
 -- Every call keeps the two machines side by side, and so does every run: the law over whole runs and over disturbed runs.
-use Rattle.std.proofs.Common.{◌≡◌, ℕ, zero, suc, ◌+◌, ◌-◌, ◌*◌, ◌/◌, ◌%◌, ◌^◌, ◌<◌, ◌≤◌, Bool, true, false, cond, not, ◌&&◌, ◌||◌, eqb, ltb, leb, ◌⊎◌, List, [], ◌∷◌, length, get_or, set, replicate, Some, None, Ok, Err, Option, Result, sym, refl, ap, ◌∙◌, subst, inl, inr, arith}
+use Rattle.std.proofs.Common.{◌≡◌, ℕ, zero, suc, ◌+◌, ◌-◌, ◌*◌, ◌/◌, ◌%◌, ◌<◌, ◌≤◌, Bool, true, false, cond, ◌&&◌, eqb, ltb, List, [], ◌∷◌, length, get_or, set, replicate, Some, None, Ok, Err, Option, Result, sym, refl, ap, ◌∙◌, subst, inl, inr, arith}
 use Rattle.std.proofs.lemmas.List.{get_or_past, get_or-replicate, length-replicate}
-use Rattle.std.proofs.lemmas.Bool.{and_from, cases_eq, cases_lt, eq-eqb, eqb-true, le-ltb, lt-ltb, ne_eqb}
+use Rattle.std.proofs.lemmas.Bool.{and_from, cases_eq, cases_lt, eq-eqb, le-ltb, lt-ltb}
 use Rattle.frames.specs.Keys.{changed, reference_on}
 use Rattle.model.specs.declared.calls.Answer.{Answer}
 use Rattle.model.specs.declared.calls.Answer.TheVariants.{Byte, Done, Refused}
@@ -12,26 +12,25 @@ use Rattle.model.specs.declared.calls.IplRefusal.TheVariants.{Sizes, Partitions,
 use Rattle.model.specs.declared.calls.Refusal.{Refusal}
 use Rattle.model.specs.declared.calls.Refusal.TheVariants.{Sizes as WrongLength, Tables}
 use Rattle.model.specs.declared.shape.FrameRecord.{FrameRecord}
-use Rattle.model.specs.Flat.{Flat, blank, byte_set, fixed_pages, fixes_set, flat, flat_answers, flat_done, flat_fix, flat_free, flat_load, flat_loaded, flat_store}
-use Rattle.model.specs.Ipl.{first_entry, first_fault, fresh, ipl, own_pages, partition_entry, partitions_fit, sizes_fit, start_by, with_tables}
+use Rattle.model.specs.Flat.{Flat, blank, byte_set, fixed_pages, fixes_set, flat, flat_done, flat_fix, flat_free, flat_load, flat_loaded, flat_store}
+use Rattle.model.specs.Ipl.{first_fault, fresh, ipl, own_pages, partition_entry, partitions_fit, sizes_fit, start_by, with_tables}
 use Rattle.model.specs.Law.{After, Consistent, Fits, LawOf, Pageable, Placed, Saved, Slots, Sound, Stands, SteadyOf, answered}
-use Rattle.model.specs.Layout.{bit15, controls_of, counted, entries_are, entry_at, entry_for, entry_is, entry_should, fixed_in, fixes_in, frame_of, frames_are, key_of, no_page, out_entry, page_in, segment_at, segment_entries, segment_word, segments, segments_are, vacant}
-use Rattle.model.specs.Refusals.{Request, and_then, decode_fix, decode_free, decode_load, decode_purge, decode_settle, decode_store, fixes_of, full, right_length, unless, where_is}
-use Rattle.model.specs.Steps.{asked, brought, brought_frame, byte_answer, change_on, done_answer, fix, fixed_in1, fixing, free, freed_in, freeing, load, loaded_in, loading, purge, purged, purging, settle, store, stored_in, storing, sweeping, swept, worked}
+use Rattle.model.specs.Layout.{controls_of, counted, entries_are, entry_at, entry_for, entry_is, entry_should, fixed_in, fixes_in, frame_of, frames_are, key_of, no_page, out_entry, page_in, segment_entries, segments, segments_are, vacant}
+use Rattle.model.specs.Refusals.{Request, and_then, decode_fix, decode_free, decode_load, decode_purge, decode_settle, decode_store, fixes_of, unless, where_is}
+use Rattle.model.specs.Steps.{brought, brought_frame, byte_answer, change_on, done_answer, fix, fixed_in1, fixing, free, freed_in, freeing, load, loaded_in, loading, purge, purging, settle, store, stored_in, storing, sweeping, swept, worked}
 use Rattle.model.specs.World.{Config, GoodParts, LawfulParts, Parts, World}
-use Rattle.model.proofs.Answered.{Agree, Side, asked_is, byte_is, counts_agree, fix_agrees, flat_of, free_agrees, load_agrees, placed, reached_mem, stands, store_agrees}
-use Rattle.model.proofs.Beside.{Mem, Swept, frames_right, swept_mem}
-use Rattle.model.proofs.Decoded.{Reached, fix_ok, free_ok, load_ok, store_ok}
-use Rattle.model.proofs.Find.{all_entries, all_segments, counted_same, frame_is_lem, frame_none, frame_some}
+use Rattle.model.proofs.Answered.{Agree, Side, asked_is, byte_is, fix_agrees, free_agrees, load_agrees, placed, reached_mem, stands, store_agrees}
+use Rattle.model.proofs.Beside.{Mem, frames_right, swept_mem}
+use Rattle.model.proofs.Decoded.{fix_ok, free_ok, load_ok, store_ok}
+use Rattle.model.proofs.Find.{all_entries, all_segments, frame_none, frame_some}
 use Rattle.model.proofs.Kept.{call_own, fixed_frame, loaded_own, ready_page, same_pages, steadies, stored_own}
-use Rattle.model.proofs.Memory.{Absent, Content, Counts, Entries, backing, bit_is, change_on_lem, changed_on, changed_set, content_keys, content_pages, entries_pages}
+use Rattle.model.proofs.Memory.{Content, Counts, Entries, backing, bit_is, change_on_lem, changed_on, changed_set, content_keys, content_pages, entries_pages}
 use Rattle.model.proofs.Moved.{counted_to, stored_content, stored_entries, total_falls, total_rises, total_stays}
 use Rattle.model.proofs.Own.{agrees_frame, real_page}
-use Rattle.model.proofs.Ready.{Ready, ready}
+use Rattle.model.proofs.Ready.{ready}
 use Rattle.model.proofs.Start.{first_entry_lem, first_holding, first_segment, first_table, fits_from, no_fault, no_fixes, no_page_lem, nobody, tables_long}
-use Rattle.storage.specs.Bytes.{half, page, word, zeros}
+use Rattle.storage.specs.Bytes.{half, page, zeros}
 use Rattle.storage.proofs.Over.{laws}
-use Rattle.translation.specs.Translator as translators
 
 module _ {T P S : Type 0} (r : Parts T P S) (law : LawfulParts r) where
   -- an outcome beside the flat machine's

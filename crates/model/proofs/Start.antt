@@ -1,32 +1,22 @@
 -- IPL: the tables that it writes, and that the machine it starts is consistent and beside the blank flat machine.
-use Rattle.std.proofs.Common.{◌≡◌, ℕ, zero, suc, ◌+◌, ◌-◌, ◌*◌, ◌/◌, ◌%◌, ◌^◌, ◌<◌, ◌≤◌, Bool, true, false, cond, not, ◌&&◌, eqb, ltb, leb, ◌⊎◌, List, [], ◌∷◌, length, get_or, set, replicate, Some, None, Ok, Err, Option, Result, sym, refl, ap, ◌∙◌, subst, inl, inr, arith}
+use Rattle.std.proofs.Common.{◌≡◌, ℕ, zero, suc, ◌+◌, ◌-◌, ◌*◌, ◌/◌, ◌^◌, ◌<◌, ◌≤◌, Bool, true, false, cond, ◌&&◌, eqb, ltb, leb, ◌⊎◌, List, [], ◌∷◌, length, get_or, set, replicate, Some, None, Option, sym, refl, ap, ◌∙◌, subst, inl, inr, arith}
 use Rattle.std.proofs.lemmas.List.{get_or_past, get_or-replicate, get_or-set_same, get_or-set_other, length-replicate, length-set}
-use Rattle.std.proofs.lemmas.Bool.{and_from, and_left, and_parts, and_right, cases_eq, cases_lt, eq-eqb, eqb-false, eqb-true, leb-true, le-ltb, lt-ltb, ltb-true, ne_eqb}
-use Rattle.frames.specs.Keys.{changed}
+use Rattle.std.proofs.lemmas.Bool.{and_from, and_parts, cases_eq, cases_lt, eq-eqb, eqb-true, leb-true, le-ltb, lt-ltb, ltb-true, ne_eqb}
 use Rattle.frames.specs.Policy as policies
-use Rattle.model.specs.declared.calls.IplRefusal.{IplRefusal}
-use Rattle.model.specs.declared.calls.IplRefusal.TheVariants.{Sizes, Partitions, Slot}
 use Rattle.model.specs.declared.shape.FrameRecord.{FrameRecord}
 use Rattle.model.specs.declared.shape.Partition.{Partition}
-use Rattle.model.specs.Flat.{Flat, blank, fixed_pages}
-use Rattle.model.specs.Ipl.{fault_of, first_entry, first_fault, fresh, in_order, ipl, or_else, own_pages, partition_entry, partitions_fit, returned, sizes_fit, slot_fault, start_by, with_entries, with_segments, with_tables}
-use Rattle.model.specs.Law.{Consistent, Fits, Holding, Keyed, Pageable, Paired, Slots, Table}
-use Rattle.model.specs.Layout.{bit15, controls_of, counted, entry_at, entry_for, entry_should, fixed_in, fixes_in, found_in, frame_of, key_of, no_page, out_entry, page_in, segment_at, segment_entries, segment_word, segments, vacant}
-use Rattle.model.specs.World.{Config, GoodParts, LawfulParts, Parts, World}
-use Rattle.model.proofs.Answered.{Side}
-use Rattle.model.proofs.Beside.{Mem}
-use Rattle.model.proofs.Find.{counted_same, frame_none, frame_some}
-use Rattle.model.proofs.Memory.{Absent, Content, Counts, Entries, backing}
-use Rattle.model.proofs.Own.{agrees_frame, real_page}
-use Rattle.model.proofs.Place.{entry_low, listed, segment_low}
+use Rattle.model.specs.Ipl.{fault_of, first_entry, first_fault, in_order, or_else, own_pages, partition_entry, partitions_fit, returned, sizes_fit, slot_fault, with_entries, with_segments, with_tables}
+use Rattle.model.specs.Law.{Fits, Holding, Table}
+use Rattle.model.specs.Layout.{entry_at, fixes_in, key_of, no_page, page_in, segment_at, segment_entries, segment_word, segments, vacant}
+use Rattle.model.specs.World.{Config}
+use Rattle.model.proofs.Memory.{Absent}
+use Rattle.model.proofs.Own.{real_page}
+use Rattle.model.proofs.Place.{segment_low}
 use Rattle.pages.specs.declared.fault.Fault.{Fault}
-use Rattle.pages.specs.declared.fault.StoreRefusal.{StoreRefusal}
-use Rattle.pages.specs.declared.fault.StoreRefusal.TheVariants.{BadSlot, NoSuchSlot, WrongLength}
+use Rattle.pages.specs.declared.fault.StoreRefusal.TheVariants.{BadSlot, NoSuchSlot}
 use Rattle.pages.specs.Store as stores
-use Rattle.storage.specs.Bytes.{half, page, put_half, put_word, word, zeros}
-use Rattle.storage.specs.Laws.{Within}
-use Rattle.storage.proofs.Over.{elsewhere, laws}
-use Rattle.translation.specs.Translator as translators
+use Rattle.storage.specs.Bytes.{half, put_half, put_word, word}
+use Rattle.storage.proofs.Over.{laws}
 
 -- Partitions in order: a page of one is not below the start, below the end, and its key is at most 15.
 in_order_lem : (from v : ℕ) (all : List Partition) (p key : ℕ) → in_order from v all ≡ true → key_of all p ≡ Some key → (from ≤ p) × (p < v) × (key ≤ 15)

@@ -1,12 +1,12 @@
 -- What IPL writes, what a refused IPL leaves, and what the test of the tables means.
-use Rattle.std.proofs.Common.{◌≡◌, ℕ, ◌+◌, ◌-◌, ◌*◌, ◌/◌, ◌<◌, ◌≤◌, Bool, true, false, cond, ◌&&◌, eqb, ◌⊎◌, List, length, Some, None, Ok, Err, Option, Result, sym, refl, ap, ◌∙◌, subst, inl, inr, arith}
-use Rattle.std.proofs.lemmas.Bool.{and_from, and_parts, cases_eq, eqb-false, ne_eqb}
+use Rattle.std.proofs.Common.{◌≡◌, ℕ, ◌+◌, ◌-◌, ◌*◌, Bool, true, false, cond, eqb, Some, None, Err, Option, sym, refl, ◌∙◌, inl, inr, arith}
+use Rattle.std.proofs.lemmas.Bool.{and_from, and_parts, eqb-false}
 use Rattle.model.specs.declared.calls.IplRefusal.{IplRefusal}
-use Rattle.model.specs.declared.calls.IplRefusal.TheVariants.{Sizes, Partitions, Slot}
-use Rattle.model.specs.Ipl.{first_fault, fresh, ipl, partitions_fit, sizes_fit, start_by, with_tables}
-use Rattle.model.specs.Law.{Consistent, FrameRight, Pageable, RefusedOf, TablesOf, TablesRight, TestOf, Tested, Written}
-use Rattle.model.specs.Layout.{entry_at, entry_for, frame_is, frames_are, key_of, no_page, page_in, page_is, segment_at, segment_entries, segments}
-use Rattle.model.specs.Refusals.{others_right, tables_right, where_is}
+use Rattle.model.specs.declared.calls.IplRefusal.TheVariants.{Sizes, Partitions}
+use Rattle.model.specs.Ipl.{first_fault, ipl, partitions_fit, sizes_fit, start_by}
+use Rattle.model.specs.Law.{Consistent, Pageable, RefusedOf, TablesOf, TablesRight, TestOf}
+use Rattle.model.specs.Layout.{frame_is, key_of, no_page, page_in, page_is}
+use Rattle.model.specs.Refusals.{tables_right, where_is}
 use Rattle.model.specs.World.{Config, Parts, World}
 use Rattle.model.proofs.Find.{all_frames, each_frame, frame_none, frame_page, frame_some, is_page, page_is_lem}
 use Rattle.model.proofs.Own.{real_page}

@@ -1,20 +1,19 @@
 -- The walk on tables that are what they should be.
-use Rattle.std.proofs.Common.{◌≡◌, ℕ, ◌+◌, ◌-◌, ◌*◌, ◌/◌, ◌%◌, ◌^◌, ◌<◌, ◌≤◌, Bool, true, false, cond, ltb, ◌⊎◌, List, length, Some, None, Ok, Err, Result, sym, refl, ap, ◌∙◌, subst, inl, inr, arith}
+use Rattle.std.proofs.Common.{◌≡◌, ℕ, ◌+◌, ◌*◌, ◌/◌, ◌%◌, ◌<◌, ◌≤◌, cond, List, length, Some, Ok, sym, refl, ap, ◌∙◌, subst, inl, inr, arith}
 use Rattle.std.proofs.lemmas.Bool.{cases_lt, le-ltb, lt-ltb}
-use Rattle.model.specs.Law.{Fits, Pageable}
+use Rattle.model.specs.Law.{Fits}
 use Rattle.model.specs.Layout.{controls_of, entry_at, segment_at, segment_entries, segments, segment_word}
 use Rattle.model.specs.World.{Config}
 use Rattle.model.proofs.Place.{entry_fits, segment_fits}
 use Rattle.storage.specs.Bytes.{half, word}
 use Rattle.tables.specs.Bits.{half_bits, word_bits}
-use Rattle.tables.specs.declared.Controls.{Controls}
 use Rattle.tables.specs.declared.PageSize.{PageSize}
 use Rattle.tables.specs.declared.PageSize.TheVariants.{Bytes2048, Bytes4096}
 use Rattle.tables.specs.declared.SegmentSize.{SegmentSize}
 use Rattle.tables.specs.declared.SegmentSize.TheVariants.{Bytes65536, Bytes1048576}
 use Rattle.tables.specs.declared.Sizes.{Sizes}
-use Rattle.tables.specs.Leads.{Leads, Names, NamesPage, NamesSegment, PageGives, SegmentGives, Splits, Valid}
-use Rattle.tables.specs.Walk.{checked, frame_field, page_bytes, segment_bytes, sizes_of, walk}
+use Rattle.tables.specs.Leads.{NamesPage, NamesSegment, PageGives, SegmentGives, Splits}
+use Rattle.tables.specs.Walk.{checked, frame_field, page_bytes, sizes_of, walk}
 use Rattle.tables.proofs.Led.{checked_of, checked_ok, finds, found}
 
 -- The sizes of the machine: pages of 2,048 bytes and segments of 65,536.

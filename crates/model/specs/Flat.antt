@@ -1,5 +1,5 @@
 -- The flat machine: bytes and fix counts of the partition pages, fed the calls and their arguments alone.
-use Rattle.std.specs.Prelude.{ℕ, zero, suc, ◌+◌, ◌-◌, ◌*◌, ◌/◌, Bool, true, false, cond, ◌&&◌, ◌||◌, ltb, List, [], ◌∷◌, replicate, Ok, Err, Result, ◌==◌, nat_le, nat_lt, slice_index, slice_set}
+use Rattle.std.specs.Prelude.{ℕ, ◌+◌, ◌-◌, ◌*◌, ◌/◌, Bool, cond, ◌&&◌, ◌||◌, ltb, List, [], ◌∷◌, replicate, Ok, Err, Result, ◌==◌, nat_le, nat_lt, slice_index, slice_set}
 use Rattle.model.specs.declared.calls.Answer.{Answer}
 use Rattle.model.specs.declared.calls.Answer.TheVariants.{Byte, Done, Refused}
 use Rattle.model.specs.declared.calls.Call.{Call}

@@ -1,5 +1,5 @@
 -- The law over whole runs, and the law over disturbed runs.
-use Rattle.std.specs.Prelude.{◌≡◌, ℕ, ◌+◌, ◌-◌, ◌*◌, ◌/◌, ◌%◌, ◌<◌, ◌≤◌, Bool, true, false, ◌⊎◌, List, [], ◌∷◌, length, get_or, Some, None, Ok, Err, Option, Result, ◌≢◌, slice_index, slice_index_or}
+use Rattle.std.specs.Prelude.{◌≡◌, ℕ, ◌+◌, ◌-◌, ◌*◌, ◌/◌, ◌<◌, ◌≤◌, true, ◌⊎◌, List, [], ◌∷◌, length, get_or, Some, None, Ok, Err, Option, Result, ◌≢◌, slice_index, slice_index_or}
 use Rattle.frames.specs.Keys.{access_of}
 use Rattle.frames.specs.Policy as policies
 use Rattle.model.specs.declared.calls.Answer.{Answer}
@@ -14,7 +14,7 @@ use Rattle.model.specs.Ipl.{first_entry, ipl, partitions_fit, sizes_fit, with_ta
 use Rattle.model.specs.Layout.{bit15, controls_of, entry_at, fixes_in, key_of, no_page, page_in, segment_at, segment_entries, segment_word, segments, vacant}
 use Rattle.model.specs.Refusals.{decode_fix, decode_free, decode_load, decode_purge, decode_settle, decode_store, tables_right, where_is}
 use Rattle.model.specs.Steps.{worked}
-use Rattle.model.specs.World.{Config, GoodParts, LawfulParts, Parts, World}
+use Rattle.model.specs.World.{Config, GoodParts, Parts, World}
 use Rattle.pages.specs.Store as stores
 use Rattle.storage.specs.Bytes.{half, page, word, zeros}
 use Rattle.tables.specs.Bits.{half_bits}

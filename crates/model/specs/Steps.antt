@@ -1,5 +1,5 @@
 -- The page fault in its four steps, and what the six calls leave. Each rule is total and names all that it leaves.
-use Rattle.std.specs.Prelude.{ℕ, zero, suc, ◌+◌, ◌-◌, ◌*◌, ◌/◌, ◌%◌, Bool, true, false, cond, not, ◌&&◌, List, length, Some, None, Ok, Err, Option, Result, ◌==◌, nat_le, nat_lt, slice_index, slice_set}
+use Rattle.std.specs.Prelude.{ℕ, zero, suc, ◌+◌, ◌-◌, ◌*◌, ◌/◌, ◌%◌, Bool, cond, not, ◌&&◌, List, length, Some, None, Ok, Err, Option, Result, ◌==◌, nat_le, nat_lt, slice_index, slice_set}
 use Rattle.frames.specs.Keys.{access_of, changed, reference_on, referred}
 use Rattle.frames.specs.Policy.{Took}
 use Rattle.model.specs.declared.calls.Answer.{Answer}
@@ -7,7 +7,6 @@ use Rattle.model.specs.declared.calls.Answer.TheVariants.{Byte, Done, Refused}
 use Rattle.model.specs.declared.calls.Call.{Call}
 use Rattle.model.specs.declared.calls.Call.TheVariants.{Load, Store, Fix, Free, Purge, Settle}
 use Rattle.model.specs.declared.calls.Refusal.{Refusal}
-use Rattle.model.specs.declared.shape.FrameRecord.{FrameRecord}
 use Rattle.model.specs.Layout.{bit15, entry_at, fixes_in, no_page, page_in}
 use Rattle.model.specs.Refusals.{Request, decode_fix, decode_free, decode_load, decode_purge, decode_settle, decode_store}
 use Rattle.model.specs.World.{Parts, World}

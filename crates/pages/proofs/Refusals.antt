@@ -1,7 +1,6 @@
 -- Which refusal a call meets, over any store's rules, and what follows of its answer, the buffer and the store.
 use Rattle.std.proofs.Common.{◌≡◌, ℕ, ◌<◌, ◌≤◌, Bool, true, false, cond, eqb, ltb, List, length, Some, None, Ok, Err, Option, Result, sym, refl, ap, ◌∙◌, arith}
 use Rattle.std.proofs.lemmas.Bool.{eq-eqb, ne_eqb, lt-ltb, le-ltb, ltb-true, eqb-true}
-use Rattle.pages.specs.declared.fault.Fault.{Fault}
 use Rattle.pages.specs.declared.fault.StoreRefusal.{StoreRefusal}
 use Rattle.pages.specs.declared.fault.StoreRefusal.TheVariants.{WrongLength, NoSuchSlot, BadSlot}
 use Rattle.pages.specs.Store.{Rules, refusal_at, told, read_into, written, Usable}

@@ -1,7 +1,6 @@
 -- The loops over a list of partitions, turn by turn.
-use Rattle.std.proofs.Common.{◌≡◌, ℕ, ◌+◌, ◌<◌, ◌≤◌, Bool, true, false, cond, ◌&&◌, ltb, leb, List, [], ◌∷◌, ◌++◌, length, get_or, take, drop, Some, None, sym, refl, ap, ◌∙◌}
-use Rattle.std.proofs.lemmas.List.{at_drop_all, at_drop_more, take_at}
-use Rattle.std.proofs.lemmas.Bool.{and_parts}
+use Rattle.std.proofs.Common.{◌≡◌, ℕ, ◌+◌, ◌<◌, Bool, true, false, cond, ◌&&◌, ltb, leb, List, ◌++◌, length, get_or, take, drop, Some, None, sym, refl, ap, ◌∙◌}
+use Rattle.std.proofs.lemmas.List.{at_drop_more, take_at}
 use Rattle.model.specs.declared.shape.Partition.{Partition}
 use Rattle.model.specs.Ipl.{in_order}
 use Rattle.model.specs.Layout.{key_of}

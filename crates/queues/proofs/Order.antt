@@ -1,7 +1,7 @@
 -- The laws of Take.
-use Rattle.std.proofs.Common.{◌≡◌, ℕ, zero, suc, ◌+◌, ◌*◌, ◌<◌, ◌≤◌, Bool, true, false, cond, eqb, ◌⊎◌, List, [], ◌∷◌, ◌++◌, length, get_or, Some, None, Option, sym, refl, ap, ◌∙◌, subst, inl, inr, arith}
+use Rattle.std.proofs.Common.{◌≡◌, ℕ, zero, suc, ◌*◌, Bool, true, false, List, [], ◌∷◌, ◌++◌, get_or, Some, None, Option, sym, refl, ap, ◌∙◌, subst, inl, inr, arith}
 use Rattle.std.proofs.lemmas.List.{append-nil}
-use Rattle.std.proofs.lemmas.Bool.{cases_eq, ne_eqb, cond-false}
+use Rattle.std.proofs.lemmas.Bool.{cases_eq}
 use Rattle.frames.specs.Held.{times_in, without}
 use Rattle.frames.specs.Keys.{referred, changed}
 use Rattle.frames.specs.Policy.{Took}
@@ -13,7 +13,7 @@ use Rattle.queues.specs.Five.{Five, times_held, size, dropped, on, turned, seen_
 use Rattle.queues.specs.Laws.{looks_at, looked_at, turns_from, turned_by, unless, looked, turns, keep, Unreferred, InOne, TakeLaws}
 use Rattle.queues.specs.Names.{frames_of}
 use Rattle.queues.specs.Weight.{five_same, step_first, step_on, cases_step}
-use Rattle.queues.specs.Lawful.{keys_kept, five_lawful, taken_times}
+use Rattle.queues.specs.Lawful.{keys_kept, taken_times}
 
 -- frames that are left out of a list
 without_twice : (f : ℕ) (xs : List ℕ) → without f (without f xs) ≡ without f xs

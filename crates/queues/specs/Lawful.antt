@@ -1,16 +1,16 @@
 -- What is certain of the five queues.
-use Rattle.std.specs.Prelude.{◌≡◌, ℕ, zero, suc, ◌+◌, ◌*◌, ◌<◌, ◌≤◌, Bool, true, false, cond, ◌&&◌, ◌⊎◌, List, [], ◌∷◌, ◌++◌, length, Some, None, Option, ◌==◌, ◌≢◌, nat_lt, slice_index, refl}
+use Rattle.std.specs.Prelude.{◌≡◌, ℕ, zero, suc, ◌+◌, ◌*◌, ◌≤◌, Bool, true, false, cond, ◌&&◌, List, [], ◌∷◌, Some, None, Option, ◌==◌, ◌≢◌, nat_lt, slice_index, refl}
 use Rattle.std.proofs.Common.{sym, ap, subst, ◌∙◌, inl, inr, arith}
 use Rattle.std.proofs.lemmas.Bool.{cases_eq, cases_lt, cases_Bool, eq-eqb, ne_eqb, eqb-true, ltb-true, and_parts, cond-true, cond-false}
-use Rattle.frames.specs.Held.{times_in, without}
+use Rattle.frames.specs.Held.{times_in}
 use Rattle.frames.specs.Keys.{referred, changed}
-use Rattle.frames.specs.Policy.{Lawful, Picks, KeysKept, Took, free}
+use Rattle.frames.specs.Policy.{Lawful, Picks, KeysKept, Took}
 use Rattle.frames.proofs.Held.{share, share_same, share_other, times_append, without_same, without_other}
 use Rattle.frames.proofs.Marks.{kept_one, kept_all, kept_then}
-use Rattle.queues.specs.Five.{Five, empty, times_held, size, dropped, on, queue_for, free_in, seen_q00, seen_q01, step, step_at, steps, first_of, taken, Good, five_rules}
+use Rattle.queues.specs.Five.{Five, times_held, size, dropped, on, queue_for, free_in, seen_q00, seen_q01, step, step_at, steps, taken, Good, five_rules}
 use Rattle.queues.specs.declared.queue.Queue.{Queue}
 use Rattle.queues.specs.declared.queue.Queue.TheVariants.{Q00, Q01, Q10, Q11, Hq}
-use Rattle.queues.specs.Weight.{weight, weight_six, size_weight, step_less, is_empty, none_steps, step_first, step_on, cases_step}
+use Rattle.queues.specs.Weight.{weight, weight_six, size_weight, step_less, is_empty, step_first, step_on, cases_step}
 
 -- one more frame at a tail
 pub on_times : (q : Queue) (m : Five) (f g : ℕ) → times_held (on q m f) g ≡ times_held m g + share f g

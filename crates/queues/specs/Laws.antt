@@ -1,6 +1,6 @@
 -- What is certain of Take, beyond its rule.
-use Rattle.std.specs.Prelude.{◌≡◌, ℕ, zero, suc, ◌*◌, Bool, false, List, [], ◌∷◌, ◌++◌, Some, None, Option, ◌≢◌, slice_index}
-use Rattle.frames.specs.Held.{times_in, without}
+use Rattle.std.specs.Prelude.{◌≡◌, ℕ, zero, suc, ◌*◌, false, List, [], ◌∷◌, ◌++◌, Some, None, Option, ◌≢◌, slice_index}
+use Rattle.frames.specs.Held.{times_in}
 use Rattle.frames.specs.Keys.{referred, changed}
 use Rattle.queues.specs.declared.queue.Queue.{Queue}
 use Rattle.queues.specs.Five.{Five, times_held, size, dropped, turned, step, steps}

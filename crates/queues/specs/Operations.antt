@@ -1,14 +1,14 @@
 -- What linking in and taking out leave of the five queues by name.
-use Rattle.std.specs.Prelude.{◌≡◌, ℕ, zero, suc, ◌+◌, ◌-◌, ◌%◌, ◌<◌, ◌≤◌, Bool, true, false, cond, ◌&&◌, ◌≢◌, ◌⊎◌, List, [], ◌∷◌, ◌++◌, length, get_or, replicate, Some, None, ◌==◌, nat_lt, slice_index, slice_index_or, slice_set}
+use Rattle.std.specs.Prelude.{◌≡◌, ℕ, zero, suc, ◌+◌, ◌-◌, ◌%◌, ◌<◌, ◌≤◌, cond, ◌≢◌, List, [], ◌∷◌, ◌++◌, length, get_or, replicate, Some, None, ◌==◌, nat_lt, slice_index, slice_index_or, slice_set}
 use Rattle.std.proofs.Math.Path.{refl}
 use Rattle.std.proofs.Common.{sym, ap, subst, ◌∙◌, inl, inr, arith}
-use Rattle.std.proofs.lemmas.List.{get_or-replicate, get_or_past, get_or-append-add, length-append, length-replicate, append_assoc, append-nil}
+use Rattle.std.proofs.lemmas.List.{get_or-replicate, get_or_past, get_or-append-add, length-replicate, append_assoc, append-nil}
 use Rattle.std.proofs.lemmas.Bool.{cases_eq, cases_lt, eq-eqb, ne_eqb, lt-ltb, le-ltb, cond-true, cond-false}
-use Rattle.frames.specs.Held.{times_in, without}
+use Rattle.frames.specs.Held.{without}
 use Rattle.frames.proofs.Held.{without_none}
 use Rattle.queues.specs.declared.queue.Queue.{Queue}
 use Rattle.queues.specs.declared.queue.Queue.TheVariants.{Q00, Q01, Q10, Q11, Hq}
-use Rattle.queues.specs.Five.{Five, empty, times_held, size, dropped, turned, on}
+use Rattle.queues.specs.Five.{Five, empty, times_held, dropped, turned, on}
 use Rattle.queues.specs.Links.{walk, list_of, node_at, Placed, Forward, Backward}
 use Rattle.queues.specs.Names.{number_of, frames_of, head_of, named}
 use Rattle.queues.specs.Rings.{Ring, somewhere, walked}

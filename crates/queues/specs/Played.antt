@@ -1,9 +1,9 @@
 -- The policy's calls, over the five queues.
-use Rattle.std.specs.Prelude.{◌≡◌, ℕ, suc, ◌+◌, ◌-◌, ◌*◌, ◌<◌, ◌≤◌, Bool, true, false, cond, ◌&&◌, List, [], length, Some, None, Option, ◌==◌, nat_lt, slice_index_or, refl}
-use Rattle.std.proofs.Common.{sym, ap, subst, ◌∙◌, arith, inl, inr}
+use Rattle.std.specs.Prelude.{◌≡◌, ℕ, suc, ◌-◌, ◌*◌, ◌<◌, true, false, cond, ◌&&◌, List, length, Some, None, ◌==◌, nat_lt, slice_index_or}
+use Rattle.std.proofs.Common.{sym, ap, ◌∙◌, arith, inl, inr}
 use Rattle.std.proofs.lemmas.List.{get_or_past}
-use Rattle.std.proofs.lemmas.Bool.{cases_lt, lt-ltb, le-ltb, and_left, ltb-false, ltb-true, eq-eqb, ne_eqb, cond-true, cond-false}
-use Rattle.frames.specs.Policy.{Took, free, holds}
+use Rattle.std.proofs.lemmas.Bool.{cases_lt, lt-ltb, le-ltb, and_left, ltb-false, ltb-true, ne_eqb, cond-false}
+use Rattle.frames.specs.Policy.{Took, holds}
 use Rattle.queues.specs.Five.{Five, times_held, size, dropped, free_in, step, steps, taken, Good, five_rules}
 use Rattle.queues.specs.Links.{list_of, Placed}
 use Rattle.queues.specs.Names.{named}

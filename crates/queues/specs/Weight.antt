@@ -5,7 +5,6 @@ use Rattle.std.proofs.lemmas.List.{get_or-set_same, get_or-set_other, set_past, 
 use Rattle.std.proofs.lemmas.Bool.{cases_eq, cases_lt, cases_Bool, cond-true, cond-false}
 use Rattle.frames.specs.Held.{without}
 use Rattle.frames.specs.Keys.{referred, changed, reference_off}
-use Rattle.frames.specs.Policy.{Took}
 use Rattle.frames.proofs.Held.{without_first, without_later}
 use Rattle.frames.proofs.Marks.{off_referred}
 use Rattle.queues.specs.Five.{Five, empty, size, turned, marked_off, seen_q00, seen_q01, step, step_at, first_of, steps}

@@ -2,7 +2,6 @@
 use Rattle.script.specs.declared.command.Command.{Command}
 use Rattle.script.specs.declared.command.Command.TheVariants.{Help, Wire, Save, Bad, Mark, Storage, Display, Alter, Walk, Controls, Slot}
 use Rattle.script.specs.declared.verb.Verb.{Verb}
-use Rattle.script.specs.declared.verb.Verb.TheVariants as Verb
 
 -- What a command is called.
 abbrev pub verb_of : Command → Verb

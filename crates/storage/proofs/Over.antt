@@ -1,8 +1,8 @@
 -- The laws of reading over writing: each read by its own bytes, each write beside its own bytes, and their meeting.
-use Rattle.std.proofs.Common.{◌≡◌, ℕ, ◌+◌, ◌-◌, ◌*◌, ◌/◌, ◌%◌, ◌^◌, ◌<◌, ◌≤◌, ◌⊎◌, List, ◌++◌, length, get_or, take, drop, set, replicate, sym, refl, ap, ◌∙◌, inl, inr, arith}
+use Rattle.std.proofs.Common.{◌≡◌, ℕ, ◌+◌, ◌-◌, ◌*◌, ◌/◌, ◌%◌, ◌^◌, ◌<◌, ◌≤◌, ◌⊎◌, List, ◌++◌, length, get_or, take, drop, set, replicate, sym, ap, ◌∙◌, inl, inr, arith}
 use Rattle.std.proofs.lemmas.List.{length-take, length-drop, length-append, length-set, length-replicate, length-take-le, get_or-take, get_or-drop, take_at, drop_at, same_lists, get_or-set_same, get_or-set_other, get_or_append_left, get_or-append_right, get_or-replicate, get_or_past, get_or_default, drop-set-add, drop-replicate, take-replicate}
 use lib.Seq.{take-set-lt}
-use Rattle.std.proofs.lemmas.Bool.{cases_lt, cases_eq}
+use Rattle.std.proofs.lemmas.Bool.{cases_lt}
 use Rattle.storage.specs.Bytes.{half, word, put_half, put_word, page, put_page, zeros}
 use Rattle.storage.specs.Laws.{Alike, Within, Local, Beside, Same, Pages, Laws, Elsewhere}
 

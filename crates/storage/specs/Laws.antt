@@ -1,7 +1,7 @@
 -- What reads give over writes. A read depends on its own bytes alone (Local), a write leaves every byte but its own
 -- (Beside), and a read gives back what was written at its place (Same): with these three no proof above has to see
 -- how a number or a page lies in the list.
-use Rattle.std.specs.Prelude.{◌≡◌, ℕ, ◌+◌, ◌*◌, ◌^◌, ◌<◌, ◌≤◌, ◌⊎◌, List, length, set, replicate, slice_index, slice_set}
+use Rattle.std.specs.Prelude.{◌≡◌, ℕ, ◌+◌, ◌^◌, ◌<◌, ◌≤◌, ◌⊎◌, List, length, replicate, slice_index, slice_set}
 use Rattle.storage.specs.Bytes.{half, word, put_half, put_word, page, put_page, zeros}
 
 -- Two storages have the same n bytes at a place.

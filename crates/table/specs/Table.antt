@@ -1,5 +1,5 @@
 -- The frame table as a list of its records, and the table with one record replaced.
-use Rattle.std.specs.Prelude.{◌≡◌, ℕ, List, length, slice_index_or, slice_set}
+use Rattle.std.specs.Prelude.{ℕ, List, slice_index_or, slice_set}
 use Rattle.std.proofs.Common.{◌∙◌, length-set}
 use Rattle.model.specs.declared.shape.FrameRecord.{FrameRecord}
 use Rattle.model.specs.Layout.{fixes_in, page_in, vacant}

@@ -1,5 +1,5 @@
 -- The walk answers a real address exactly where the tables lead to one.
-use Rattle.std.proofs.Common.{◌≡◌, ℕ, ◌+◌, ◌-◌, ◌*◌, ◌/◌, ◌%◌, ◌^◌, ◌<◌, ◌≤◌, Bool, true, false, cond, ◌&&◌, eqb, ltb, leb, List, length, Some, None, Ok, Err, Option, Result, sym, refl, ap, ◌∙◌, subst, arith}
+use Rattle.std.proofs.Common.{◌≡◌, ℕ, ◌+◌, ◌*◌, ◌/◌, ◌<◌, Bool, true, false, cond, eqb, ltb, List, length, Some, None, Ok, Err, Option, Result, sym, refl, ap, ◌∙◌, subst, arith}
 use Rattle.std.proofs.lemmas.Bool.{ltb-true, ltb-false, leb-true, eqb-true, lt-ltb, le-ltb, le-leb, eq-eqb, and_parts, and_from}
 use Rattle.storage.specs.Bytes.{fits, half, word, half_at, word_at}
 use Rattle.tables.specs.Bits.{half_bits, word_bits}
@@ -11,7 +11,7 @@ use Rattle.tables.specs.declared.Refusal.TheVariants.{Addressing, SegmentTransla
 use Rattle.tables.specs.declared.SegmentSize.{SegmentSize}
 use Rattle.tables.specs.declared.SegmentSize.TheVariants.{Bytes65536, Bytes1048576}
 use Rattle.tables.specs.declared.Sizes.{Sizes}
-use Rattle.tables.specs.Walk.{and_then, or_refuse, page_bytes, segment_bytes, page_size_of, segment_size_of, both_sizes, sizes_of, checked, segment_index, page_index, byte_index, pages_in, reserved_off, sound_segment, segment_entry, sound_page, invalid, frame_field, valid_page, page_entry, frame_start, located, walk}
+use Rattle.tables.specs.Walk.{and_then, or_refuse, page_bytes, page_size_of, segment_size_of, both_sizes, sizes_of, checked, segment_index, page_index, byte_index, pages_in, reserved_off, sound_segment, segment_entry, sound_page, invalid, frame_field, valid_page, page_entry, frame_start, located, walk}
 use Rattle.tables.specs.Leads.{NamesPage, NamesSegment, Names, Splits, SegmentGives, Valid, PageGives, Leads, Exact}
 
 -- An answered chain of two steps is two answered steps.

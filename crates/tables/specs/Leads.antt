@@ -1,11 +1,10 @@
 -- What a real address is, in the architecture's own words, and that the walk answers it exactly where there is one.
-use Rattle.std.specs.Prelude.{◌≡◌, ℕ, ◌+◌, ◌*◌, ◌/◌, ◌%◌, ◌<◌, ◌≤◌, List, length, Ok, Err, Result}
+use Rattle.std.specs.Prelude.{◌≡◌, ℕ, ◌+◌, ◌*◌, ◌/◌, ◌<◌, ◌≤◌, List, length, Ok}
 use Rattle.storage.specs.Bytes.{half, word}
 use Rattle.tables.specs.Bits.{half_bits, word_bits}
 use Rattle.tables.specs.declared.Controls.{Controls}
 use Rattle.tables.specs.declared.PageSize.{PageSize}
 use Rattle.tables.specs.declared.PageSize.TheVariants.{Bytes2048, Bytes4096}
-use Rattle.tables.specs.declared.Refusal.{Refusal}
 use Rattle.tables.specs.declared.SegmentSize.{SegmentSize}
 use Rattle.tables.specs.declared.SegmentSize.TheVariants.{Bytes65536, Bytes1048576}
 use Rattle.tables.specs.declared.Sizes.{Sizes}

@@ -1,5 +1,5 @@
 -- The walk of the tables in its ten steps. The first refusal ends it.
-use Rattle.std.specs.Prelude.{ℕ, ◌+◌, ◌*◌, ◌/◌, ◌%◌, ◌^◌, Bool, true, false, cond, ◌&&◌, List, length, Some, None, Ok, Err, Option, Result, ◌==◌, nat_lt}
+use Rattle.std.specs.Prelude.{ℕ, ◌+◌, ◌*◌, ◌/◌, ◌%◌, Bool, cond, ◌&&◌, List, length, Some, None, Ok, Err, Option, Result, ◌==◌, nat_lt}
 use Rattle.storage.specs.Bytes.{half_at, word_at}
 use Rattle.tables.specs.Bits.{half_bits, word_bits}
 use Rattle.tables.specs.declared.Controls.{Controls}

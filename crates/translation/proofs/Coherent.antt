@@ -1,19 +1,18 @@
 -- After LoadControls or Purge, any list of calls on the same storage is answered as the walk alone answers it.
-use Rattle.std.proofs.Common.{◌≡◌, ℕ, ◌+◌, ◌<◌, ◌≤◌, true, false, ◌⊎◌, List, [], ◌∷◌, ◌++◌, length, get_or, drop, Ok, Err, Result, sym, refl, ap, ◌∙◌, subst, inl, inr, arith}
+use Rattle.std.proofs.Common.{◌≡◌, ℕ, ◌+◌, ◌<◌, ◌≤◌, true, List, [], ◌∷◌, ◌++◌, length, get_or, drop, Ok, Err, Result, sym, refl, ap, ◌∙◌, subst, inl, inr}
 use Rattle.std.proofs.lemmas.List.{append_assoc, append-nil, at_drop_all, at_drop_more}
 use Rattle.tables.specs.declared.Controls.{Controls}
 use Rattle.tables.specs.declared.Refusal.{Refusal}
 use Rattle.tables.specs.declared.Sizes.{Sizes}
-use Rattle.tables.specs.Walk.{byte_index, checked, located, page_number, walk}
-use Rattle.tables.proofs.Led.{located_ok}
+use Rattle.tables.specs.Walk.{checked, page_number, walk}
 use Rattle.translation.specs.declared.runs.Ask.{Ask}
 use Rattle.translation.specs.declared.runs.Ask.TheVariants.{Translate, Forget, Controls as Words}
 use Rattle.translation.specs.declared.runs.Start.{Start}
 use Rattle.translation.specs.declared.runs.Start.TheVariants.{Load, Purge}
 use Rattle.translation.specs.declared.runs.Told.{Told}
 use Rattle.translation.specs.declared.runs.Told.TheVariants.{Real, Forgotten, Held}
-use Rattle.translation.specs.Runs.{answers, last_of, left_by, started, told_by, walk_answers, walk_told, words_of}
-use Rattle.translation.specs.Translator.{Agrees, Answer, Answers, ByPair, ByWalk, Just, Lawful, Rules}
+use Rattle.translation.specs.Runs.{answers, last_of, left_by, started, told_by, walk_answers, words_of}
+use Rattle.translation.specs.Translator.{Agrees, Answer, Answers, Lawful, Rules}
 use Rattle.translation.specs.Walked.{agreed_by, by_agreed, walk_stops}
 
 -- Every pair agrees with the walk.

@@ -1,7 +1,6 @@
 -- What the code of the TLB leaves in its array, step by step.
-use Rattle.std.proofs.Common.{◌≡◌, ℕ, zero, suc, ◌+◌, ◌-◌, ◌<◌, ◌≤◌, min, Bool, true, false, cond, eqb, List, [], ◌∷◌, ◌++◌, length, get_or, take, drop, Some, None, Ok, Err, Result, sym, refl, ap, ◌∙◌, subst, arith}
+use Rattle.std.proofs.Common.{◌≡◌, ℕ, suc, ◌+◌, ◌-◌, ◌<◌, ◌≤◌, true, false, cond, eqb, List, [], ◌∷◌, ◌++◌, length, get_or, take, drop, Some, None, Ok, Err, sym, refl, ap, ◌∙◌, arith}
 use Rattle.std.proofs.lemmas.List.{get_or-take, length-append, length-drop, length-take, length-take-le, take-append-le, take_at}
-use Rattle.std.proofs.lemmas.Bool.{eq-eqb}
 use Rattle.std.specs.List.{remove}
 use borrow.Rule.Slice.PartMut.{post_of}
 use Rattle.recency.specs.Places.{at_end, place_of}
@@ -9,7 +8,7 @@ use Rattle.recency.proofs.Look.{found}
 use Rattle.tables.specs.declared.Refusal.{Refusal}
 use Rattle.tables.specs.Walk.{located}
 use Rattle.translation.specs.declared.pair.Pair.{Pair}
-use Rattle.translation.specs.Layers.{hit, page_of, pair_of, pairs_in, without}
+use Rattle.translation.specs.Layers.{hit, page_of, pair_of, without}
 use Rattle.translation.specs.Translator.{Answer, Translated}
 
 pub at_end_length : (xs : List Pair) (i : ℕ) → i < length xs → length (at_end xs i) ≡ length xs

@@ -1,16 +1,15 @@
 -- The TLB is a translator, whatever translator it is a layer over.
-use Rattle.std.specs.Prelude.{◌≡◌, ℕ, ◌+◌, ◌-◌, ◌<◌, ◌≤◌, Bool, true, false, cond, ◌&&◌, ◌||◌, ◌⊎◌, List, [], ◌∷◌, ◌++◌, length, Some, None, Ok, Err, Option, Result, slice_index_or, refl}
+use Rattle.std.specs.Prelude.{◌≡◌, ℕ, ◌+◌, ◌-◌, ◌≤◌, true, false, ◌||◌, ◌⊎◌, List, [], length, Some, None, Ok, Err, Option, Result, slice_index_or, refl}
 use Rattle.std.proofs.Common.{sym, ap, subst, ◌∙◌, inl, inr, arith}
 use Rattle.std.proofs.lemmas.Bool.{or_cases, or_left, or_right, or_from}
-use Rattle.recency.specs.Places.{at_end, place_of, put_last}
-use Rattle.tables.specs.declared.Controls.{Controls}
+use Rattle.recency.specs.Places.{place_of}
 use Rattle.tables.specs.declared.Refusal.{Refusal}
 use Rattle.tables.specs.declared.Sizes.{Sizes}
-use Rattle.tables.specs.Walk.{and_then, byte_index, checked, frame_start, located, page_index, page_number, segment_index, walk}
+use Rattle.tables.specs.Walk.{byte_index, checked, frame_start, located, page_index, page_number, segment_index}
 use Rattle.tables.proofs.Led.{chain_ok, located_ok}
 use Rattle.translation.specs.declared.pair.Pair.{Pair}
-use Rattle.translation.specs.Layers.{has, hit, looked, missed, page_of, pair_of, sized, tlb_rules, without}
-use Rattle.translation.specs.Translator.{Agrees, Answer, Answers, ByPair, ByWalk, Just, Lawful, Rules, Translated}
+use Rattle.translation.specs.Layers.{has, hit, looked, missed, page_of, pair_of, sized, tlb_rules}
+use Rattle.translation.specs.Translator.{Answer, Answers, ByPair, ByWalk, Just, Lawful, Rules, Translated}
 use Rattle.translation.specs.Held.{at_end_long, has_at_end, has_found, has_nowhere, has_put, put_long, without_adds, without_ends, without_long}
 use Rattle.translation.specs.Walked.{walk_of}
 

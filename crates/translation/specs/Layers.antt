@@ -1,5 +1,5 @@
 -- The walker, which never has a pair, and the TLB, a layer of eight pairs over any translator.
-use Rattle.std.specs.Prelude.{ℕ, ◌-◌, ◌≤◌, Bool, true, false, cond, ◌&&◌, ◌||◌, List, [], ◌∷◌, length, take, Some, None, Ok, Err, Option, Result, ◌==◌, slice_index_or}
+use Rattle.std.specs.Prelude.{ℕ, ◌-◌, ◌≤◌, Bool, false, cond, ◌&&◌, ◌||◌, List, [], ◌∷◌, length, take, Some, None, Ok, Err, Option, Result, ◌==◌, slice_index_or}
 use Rattle.recency.specs.Places.{at_end, place_of, put_last}
 use Rattle.tables.specs.declared.Controls.{Controls}
 use Rattle.tables.specs.declared.Refusal.{Refusal}

@@ -1,6 +1,6 @@
 -- The walk by pages: all bytes of a page are in one frame. And the walker is a translator.
-use Rattle.std.specs.Prelude.{◌≡◌, ℕ, ◌+◌, ◌-◌, ◌*◌, ◌/◌, ◌%◌, ◌<◌, ◌≤◌, Bool, true, false, cond, ◌⊎◌, List, length, Some, None, Ok, Err, Result, refl}
-use Rattle.std.proofs.Common.{sym, ap, subst, ◌∙◌, inl, inr, arith}
+use Rattle.std.specs.Prelude.{◌≡◌, ℕ, ◌+◌, ◌*◌, ◌≤◌, true, false, List, Some, Ok, Err, Result, refl}
+use Rattle.std.proofs.Common.{sym, ap, subst, ◌∙◌, inr, arith}
 use Rattle.tables.specs.declared.Controls.{Controls}
 use Rattle.tables.specs.declared.PageSize.{PageSize}
 use Rattle.tables.specs.declared.PageSize.TheVariants.{Bytes2048, Bytes4096}
@@ -8,10 +8,10 @@ use Rattle.tables.specs.declared.Refusal.{Refusal}
 use Rattle.tables.specs.declared.SegmentSize.{SegmentSize}
 use Rattle.tables.specs.declared.SegmentSize.TheVariants.{Bytes65536, Bytes1048576}
 use Rattle.tables.specs.declared.Sizes.{Sizes}
-use Rattle.tables.specs.Walk.{and_then, byte_index, checked, frame_start, located, page_bytes, page_index, page_number, segment_index, sizes_of, walk}
+use Rattle.tables.specs.Walk.{and_then, byte_index, checked, frame_start, located, page_bytes, page_index, page_number, segment_index, walk}
 use Rattle.tables.proofs.Led.{chain_ok, chain_of, checked_ok, checked_of, located_ok, located_at}
 use Rattle.translation.specs.Layers.{walker_rules}
-use Rattle.translation.specs.Translator.{Agrees, Answer, Answers, ByPair, ByWalk, Just, Lawful, Rules}
+use Rattle.translation.specs.Translator.{Agrees, Answers, Lawful}
 
 -- A walk past its first two steps.
 pub walk_of : (s : List ℕ) (w : Controls) (a : ℕ) (z : Sizes) → checked w a ≡ Ok z

@@ -1,6 +1,6 @@
-use Rattle.std.proofs.Common.{◌≡◌, ℕ, ◌+◌, ◌*◌, true, cond, ◌&&◌, eqb, length, get_or, Some, None, sym, refl, ap, ◌∙◌, arith}
+use Rattle.std.proofs.Common.{ap, ◌∙◌, arith}
 use Rattle.storage.proofs.Parted.{put_mid_lem, cleared}
-use Rattle.storage.specs.Bytes.{put_page, zeros}
+use Rattle.storage.specs.Bytes.{put_page}
 use Rattle.storage.proofs.clear_page.Goals as goal
 
 pub returns : goal.returns

@@ -1,4 +1,4 @@
-use Rattle.std.proofs.Common.{◌≡◌, ℕ, ◌+◌, ◌*◌, true, cond, ◌&&◌, eqb, length, get_or, Some, None, sym, refl, ap, ◌∙◌, arith}
+use Rattle.std.proofs.Common.{◌≡◌, ◌+◌, ◌*◌, get_or, Some, None, ap, arith}
 use Rattle.storage.specs.Bytes.{half}
 use Rattle.storage.proofs.Parted.{there}
 use Rattle.storage.proofs.half.Goals as goal

@@ -1,4 +1,4 @@
-use Rattle.std.proofs.Common.{◌≡◌, ℕ, ◌+◌, ◌*◌, true, cond, ◌&&◌, eqb, length, get_or, Some, None, sym, refl, ap, ◌∙◌, arith}
+use Rattle.std.proofs.Common.{Some, None, ap, arith}
 use Rattle.storage.specs.Bytes.{page}
 use Rattle.storage.proofs.Parted.{there, part}
 use Rattle.storage.proofs.page.Goals as goal

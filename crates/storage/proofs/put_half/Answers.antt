@@ -1,4 +1,4 @@
-use Rattle.std.proofs.Common.{◌≡◌, ℕ, ◌+◌, ◌*◌, true, cond, ◌&&◌, eqb, length, get_or, Some, None, sym, refl, ap, ◌∙◌, arith}
+use Rattle.std.proofs.Common.{refl}
 use Rattle.storage.specs.Bytes.{put_half}
 use Rattle.storage.proofs.Parted.{there}
 use Rattle.storage.proofs.put_half.Goals as goal

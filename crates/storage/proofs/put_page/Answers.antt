@@ -1,6 +1,6 @@
-use Rattle.std.proofs.Common.{◌≡◌, ℕ, ◌+◌, ◌*◌, true, cond, ◌&&◌, eqb, length, get_or, Some, None, sym, refl, ap, ◌∙◌, arith, rules}
+use Rattle.std.proofs.Common.{ap, ◌∙◌, arith, rules}
 use Rattle.storage.proofs.Parted.{put_mid_lem}
-use Rattle.storage.specs.Bytes.{put_page, fits}
+use Rattle.storage.specs.Bytes.{put_page}
 use Rattle.storage.proofs.put_page.Goals as goal
 
 pub returns : goal.returns

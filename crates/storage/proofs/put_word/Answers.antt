@@ -1,4 +1,3 @@
-use Rattle.std.proofs.Common.{◌≡◌, ℕ, ◌+◌, ◌*◌, true, cond, ◌&&◌, eqb, length, get_or, Some, None, sym, refl, ap, ◌∙◌, arith}
 use Rattle.storage.proofs.Parted.{there, four}
 use Rattle.storage.proofs.put_word.Goals as goal
 

@@ -1,4 +1,4 @@
-use Rattle.std.proofs.Common.{◌≡◌, ℕ, ◌+◌, ◌*◌, true, cond, ◌&&◌, eqb, length, get_or, Some, None, sym, refl, ap, ◌∙◌, arith}
+use Rattle.std.proofs.Common.{Some, None, ap}
 use Rattle.storage.specs.Bytes.{half, word}
 use Rattle.storage.proofs.Parted.{there, joined}
 use Rattle.storage.proofs.word.Goals as goal

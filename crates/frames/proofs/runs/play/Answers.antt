@@ -1,4 +1,4 @@
-use Rattle.std.proofs.Common.{◌≡◌, [], ◌∷◌, ◌++◌, vec_items, sym, refl, ap, ◌∙◌, arith, rules}
+use Rattle.std.proofs.Common.{◌≡◌, [], ◌∷◌, ◌++◌, vec_items, arith, rules}
 use Rattle.frames.proofs.Told.{told_at, turn_answers, turn_left, end_answers, end_left}
 use Rattle.frames.proofs.runs.play.Goals as goal
 

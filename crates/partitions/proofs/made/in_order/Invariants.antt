@@ -1,6 +1,5 @@
 use Rattle.std.proofs.Common.{◌≡◌, ◌≤◌, length, drop}
 use Rattle.model.specs.Ipl.{in_order}
-use Rattle.model.specs.Layout.{key_of}
 use Rattle.partitions.proofs.made.in_order.Given as goal
 
 abbrev pub invariant-loop-partition : goal.invariant-loop-partition

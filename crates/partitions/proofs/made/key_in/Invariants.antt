@@ -1,5 +1,4 @@
 use Rattle.std.proofs.Common.{◌≡◌, ◌≤◌, length, drop}
-use Rattle.model.specs.Ipl.{in_order}
 use Rattle.model.specs.Layout.{key_of}
 use Rattle.partitions.proofs.made.key_in.Given as goal
 

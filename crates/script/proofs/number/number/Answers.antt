@@ -1,6 +1,6 @@
-use Rattle.std.proofs.Common.{◌≡◌, ℕ, ◌^◌, ◌≤◌, min, sym, refl, ap, ◌∙◌, inl, inr, arith, rules}
+use Rattle.std.proofs.Common.{sym, refl, ◌∙◌, inl, inr, arith, rules}
 use Rattle.std.proofs.lemmas.Option.{MatchOption-at_some}
-use Rattle.script.specs.Numbers.{Numeral, Quoted, value_of, within}
+use Rattle.script.specs.Numbers.{value_of, within}
 use Rattle.script.proofs.number.number.Goals as goal
 use Rattle.script.proofs.number.number.Goals.{then-quoted, else-quoted}
 

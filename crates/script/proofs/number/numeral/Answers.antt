@@ -1,7 +1,6 @@
-use Rattle.std.proofs.Common.{◌≡◌, ◌+◌, ◌*◌, ◌^◌, ◌<◌, min, length, get_or, take, sym, refl, ap, ◌∙◌, arith, rules, below_more}
-use borrow.Author.Tests.{eqb-false}
+use Rattle.std.proofs.Common.{◌+◌, ◌*◌, ◌^◌, min, ap, ◌∙◌, arith, rules, below_more}
 use Rattle.std.proofs.lemmas.List.{take_all}
-use Rattle.script.specs.Numbers.{digit_of, value_of}
+use Rattle.script.specs.Numbers.{value_of}
 use Rattle.script.proofs.Values.{value_more}
 use Rattle.script.proofs.number.numeral.Goals as goal
 

@@ -1,4 +1,4 @@
-use Rattle.std.proofs.Common.{◌≡◌, true, false, sym, ◌∙◌, arith}
+use Rattle.std.proofs.Common.{true, false, sym, ◌∙◌, arith}
 use Rattle.table.specs.Table.{records_of}
 use Rattle.table.proofs.Loops.{fixed_more, fixed_none}
 use Rattle.table.proofs.FrameTable.count_fixed.Goals as goal

@@ -1,5 +1,5 @@
 -- `record` lends one record, and the table follows it. Assumes `Logic`.
-use Rattle.std.proofs.Common.{◌≡◌, ℕ, ◌+◌, ◌*◌, ◌^◌, ◌<◌, List, [], ◌∷◌, set, sym, refl, subst, arith, w8}
+use Rattle.std.proofs.Common.{ℕ, ◌+◌, ◌*◌, ◌^◌, ◌<◌, [], ◌∷◌, set, sym, refl, subst, arith, w8}
 use seplogic.Ra.Ura.{Ura}
 use mir.Syntax.{named}
 use mir.Val.{Val, vint, vptr}
@@ -25,7 +25,6 @@ use denote.Ref.{MutRef, mut_vals, mut_Tells}
 use denote.Builtin.{u8}
 use denote.Signature.{plain, mut_ref_to}
 use denote.Steps.{nothing}
-use denote.Struct.At.{put_at}
 use denote.Follow.{follows}
 use denote.Triple.Clauses.{Clauses, closing}
 use denote.Triple.Entry.{on_entry}

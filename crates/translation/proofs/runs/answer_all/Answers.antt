@@ -1,5 +1,5 @@
-use Rattle.std.proofs.Common.{◌≡◌, [], ◌++◌, vec_items, refl, ap, ◌∙◌, rules}
-use Rattle.translation.specs.Runs.{answers, last_of, started}
+use Rattle.std.proofs.Common.{◌++◌, ap, ◌∙◌}
+use Rattle.translation.specs.Runs.{answers, last_of}
 use Rattle.translation.proofs.Coherent.{run_walked}
 use Rattle.translation.proofs.runs.answer_all.Goals as goal
 

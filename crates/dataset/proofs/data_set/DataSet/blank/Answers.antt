@@ -1,4 +1,4 @@
-use Rattle.std.proofs.Common.{◌≡◌, ◌≤◌, sym, ap, ◌∙◌, subst, arith}
+use Rattle.std.proofs.Common.{◌≤◌, sym, ap, ◌∙◌, subst}
 use Rattle.dataset.specs.Format.{Blank, opened}
 use Rattle.dataset.proofs.Blanks.{laid, blank_set_lem}
 use Rattle.dataset.proofs.data_set.DataSet.blank.Goals as goal

@@ -1,7 +1,7 @@
-use Rattle.std.proofs.Common.{length, arith, rules}
+use Rattle.std.proofs.Common.{arith}
 use Rattle.std.proofs.lemmas.List.{take_all}
 use Rattle.std.proofs.lemmas.List.Sums.{fold_more}
-use Rattle.listing.specs.Digests.{mixed, digest_from}
+use Rattle.listing.specs.Digests.{mixed}
 use Rattle.listing.proofs.digest.Digest.add.Goals as goal
 
 pub loop-b-preserved : goal.loop-b-preserved

@@ -1,4 +1,4 @@
-use Rattle.std.proofs.Common.{◌≡◌, ◌<◌, ◌≤◌, length, take, sym, ap, ◌∙◌, arith, rules}
+use Rattle.std.proofs.Common.{◌≡◌, length, take, ◌∙◌, arith, rules}
 use Rattle.lru_list.specs.Rules.{entered}
 use Rattle.lru_list.specs.Laws.{once_entered}
 use Rattle.lru_list.proofs.Kept.{front_found, front_nowhere, found_taken, nowhere_free, big_free, refused, put_entered, once_same}

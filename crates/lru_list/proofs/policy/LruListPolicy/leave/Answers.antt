@@ -1,4 +1,4 @@
-use Rattle.std.proofs.Common.{◌≡◌, ◌-◌, ◌++◌, length, take, ap, ◌∙◌, rules}
+use Rattle.std.proofs.Common.{◌≡◌, ◌-◌, ◌++◌, length, take, rules}
 use borrow.Rule.Slice.PartMut.{post_of}
 use Rattle.frames.specs.Held.{without}
 use Rattle.lru_list.specs.Laws.{once_without}

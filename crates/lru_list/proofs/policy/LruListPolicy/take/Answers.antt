@@ -1,6 +1,5 @@
-use Rattle.std.proofs.Common.{◌≡◌, ◌-◌, ◌<◌, ◌++◌, length, get_or, take, sym, ap, ◌∙◌, arith, rules}
+use Rattle.std.proofs.Common.{◌≡◌, ◌-◌, ◌<◌, ◌++◌, length, get_or, take, sym, arith, rules}
 use borrow.Rule.Slice.PartMut.{post_of}
-use Rattle.frames.specs.Held.{Once}
 use Rattle.lru_list.specs.Laws.{once_rest}
 use Rattle.lru_list.proofs.Kept.{back_long, back_first, taken_first, once_same}
 use Rattle.lru_list.proofs.policy.LruListPolicy.take.Goals as goal

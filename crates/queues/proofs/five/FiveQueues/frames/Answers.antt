@@ -1,4 +1,4 @@
-use Rattle.std.proofs.Common.{◌≡◌, ◌+◌, [], ◌∷◌, ◌++◌, get_or, vec_items, ap, ◌∙◌}
+use Rattle.std.proofs.Common.{◌+◌, ◌++◌, get_or, vec_items, ap, ◌∙◌}
 use Rattle.queues.specs.Links.{walk}
 use Rattle.queues.specs.Model.{links_of, model_of}
 use Rattle.queues.specs.Names.{frames_of}

@@ -1,4 +1,4 @@
-use Rattle.std.proofs.Common.{◌≡◌, ◌+◌, ◌++◌, get_or, ap, ◌∙◌}
+use Rattle.std.proofs.Common.{◌+◌, ◌++◌, get_or, ap, ◌∙◌}
 use Rattle.queues.specs.Operations.{head_some, head_none}
 use Rattle.queues.proofs.five.FiveQueues.head.Goals as goal
 

@@ -1,6 +1,6 @@
-use Rattle.std.proofs.Common.{◌≡◌, ◌-◌, ◌<◌, ◌≤◌, length, take, drop, Some, None, sym, ap, ◌∙◌, arith, rules}
+use Rattle.std.proofs.Common.{◌≡◌, ◌<◌, take, None, sym, ap, ◌∙◌, arith, rules}
 use Rattle.recency.specs.Places.{place_of}
-use Rattle.translation.specs.Layers.{page_of, without}
+use Rattle.translation.specs.Layers.{page_of}
 use Rattle.translation.proofs.Steps.{fewer, same_rest, as_long, front_part, without_nowhere}
 use Rattle.translation.proofs.tlb.calls.drop_pairs.Goals as goal
 
