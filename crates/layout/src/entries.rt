@@ -3,7 +3,7 @@ ghost use Rattle.std.specs.Prelude.{◌≡◌, ◌/◌, ◌%◌};
 ghost use Rattle.model.specs.Layout.{bit15, entry_at, entry_is};
 ghost use Rattle.storage.specs.Bytes.{half, put_half};
 
-use storage::{half_or_zeros, put_half};
+use storage::{half_or_zeros, write_half};
 
 // Where the entry of a page stands.
 fn place(page: u16) -> usize
@@ -19,11 +19,11 @@ pub fn entry(storage: &[u8], page: u16) -> u16
     half_or_zeros(storage, place(page))
 }
 
-/// Puts the entry of a page; storage as it was, where it has no room for it.
+/// Puts the entry of a page. A byte of it that would stand past the end of storage is dropped.
 pub fn put_entry(storage: &mut [u8], page: u16, value: u16)
     ensures { storage.new ≡ put_half storage.old (entry_at page) value }
 {
-    let _ = put_half(storage, place(page), value);
+    write_half(storage, place(page), value);
 }
 
 /// Bit 15 of the entry of a page: 1 where the page was never written out.

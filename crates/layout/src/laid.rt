@@ -10,7 +10,7 @@ ghost use Rattle.layout.specs.Config.{config_of};
 use crate::Layout;
 use crate::entries::{entry_is, put_entry};
 use model::calls::Refusal;
-use storage::{put_word, word_or_zeros};
+use storage::{word_or_zeros, write_word};
 use tables::Controls;
 
 // Where the entry of a segment stands.
@@ -112,7 +112,7 @@ impl Layout {
     {
         let count = self.segment_entries();
         for segment in 0..count {
-            let _ = put_word(storage, segment_place(segment), self.segment_word(segment));
+            write_word(storage, segment_place(segment), self.segment_word(segment));
         }
     }
 

@@ -6,23 +6,27 @@ mod tests {
     use frames::Policy;
     use lru_list::LruList;
     use queues::{FiveQueues, Queue};
+    use std::alloc::Global;
+    use std::process::Abort;
     use std::test::*;
 
     // Whether a queue has just these frames, the head first.
     fn stands(
-        rt: &HostRuntime,
+        rt: &impl Abort,
+        heap: Global,
         queues: &FiveQueues,
         queue: Queue,
         expected: &[u8],
     ) -> Result<(), Fail> {
-        let frames = queues.frames(rt.alloc(), queue)?;
-        assert_eq!(frames.as_slice(), expected);
+        let frames = queues.frames(heap, queue)?;
+        assert_eq!(rt; frames.as_slice(), expected);
         Ok(())
     }
 
     // Whether the five queues have just these frames.
     fn stand(
-        rt: &HostRuntime,
+        rt: &impl Abort,
+        heap: Global,
         queues: &FiveQueues,
         q00: &[u8],
         q01: &[u8],
@@ -30,11 +34,11 @@ mod tests {
         q11: &[u8],
         hq: &[u8],
     ) -> Result<(), Fail> {
-        stands(rt, queues, Queue::Q00, q00)?;
-        stands(rt, queues, Queue::Q01, q01)?;
-        stands(rt, queues, Queue::Q10, q10)?;
-        stands(rt, queues, Queue::Q11, q11)?;
-        stands(rt, queues, Queue::Hq, hq)
+        stands(rt, heap, queues, Queue::Q00, q00)?;
+        stands(rt, heap, queues, Queue::Q01, q01)?;
+        stands(rt, heap, queues, Queue::Q10, q10)?;
+        stands(rt, heap, queues, Queue::Q11, q11)?;
+        stands(rt, heap, queues, Queue::Hq, hq)
     }
 
     // Five Takes with four turns of the names, by keys that differ from the names of the queues.
@@ -47,7 +51,7 @@ mod tests {
         assert!(rt; queues.return_frame(4, true, true));
         assert!(rt; queues.enter(5));
         assert!(rt; queues.enter(6));
-        stand(&rt, &queues, &[1], &[2], &[3], &[4], &[5, 6])?;
+        stand(&rt, rt.alloc(), &queues, &[1], &[2], &[3], &[4], &[5, 6])?;
         let mut keys = [0u8; 256];
         keys[1] = 6;
         keys[2] = 4;
@@ -55,18 +59,18 @@ mod tests {
         keys[5] = 4;
         keys[6] = 6;
         assert_eq!(rt; queues.take(&mut keys), Some(3));
-        stand(&rt, &queues, &[], &[4, 1, 2], &[5, 6], &[], &[])?;
+        stand(&rt, rt.alloc(), &queues, &[], &[4, 1, 2], &[5, 6], &[], &[])?;
         assert_eq!(rt; keys[1], 2);
         assert_eq!(rt; keys[2], 0);
         assert_eq!(rt; queues.take(&mut keys), Some(4));
         assert_eq!(rt; queues.take(&mut keys), Some(1));
-        stand(&rt, &queues, &[], &[2], &[5, 6], &[], &[])?;
+        stand(&rt, rt.alloc(), &queues, &[], &[2], &[5, 6], &[], &[])?;
         keys[2] = 4;
         assert_eq!(rt; queues.take(&mut keys), Some(2));
-        stand(&rt, &queues, &[], &[], &[5], &[6], &[])?;
+        stand(&rt, rt.alloc(), &queues, &[], &[], &[5], &[6], &[])?;
         assert_eq!(rt; keys[6], 2);
         assert_eq!(rt; queues.take(&mut keys), Some(5));
-        stand(&rt, &queues, &[], &[6], &[], &[], &[])?;
+        stand(&rt, rt.alloc(), &queues, &[], &[6], &[], &[], &[])?;
         assert!(rt; queues.leave(6));
         assert_eq!(rt; queues.take(&mut keys), None);
         Ok(())
@@ -82,7 +86,7 @@ mod tests {
         keys[1] = 2;
         keys[2] = 6;
         assert_eq!(rt; queues.take(&mut keys), Some(1));
-        stand(&rt, &queues, &[], &[], &[], &[2], &[])?;
+        stand(&rt, rt.alloc(), &queues, &[], &[], &[], &[2], &[])?;
         assert_eq!(rt; keys[1], 2);
         assert_eq!(rt; keys[2], 2);
         Ok(())
@@ -100,9 +104,9 @@ mod tests {
         assert!(rt; !queues.enter(256));
         assert!(rt; !queues.enter(7));
         queues.touch(7);
-        stand(&rt, &queues, &[0, 7], &[], &[], &[], &[])?;
+        stand(&rt, rt.alloc(), &queues, &[0, 7], &[], &[], &[], &[])?;
         assert!(rt; queues.enter(255));
-        stand(&rt, &queues, &[0, 7], &[], &[], &[], &[255])
+        stand(&rt, rt.alloc(), &queues, &[0, 7], &[], &[], &[], &[255])
     }
 
     // Touch of a held frame puts it last, and Take gives the first and keeps the keys.
@@ -114,11 +118,11 @@ mod tests {
         assert!(rt; list.enter(0));
         list.touch(9);
         list.touch(4);
-        assert_eq!(rt; list.held(), &[3u8, 0, 9]);
+        assert_eq!(rt; list.held(), [3u8, 0, 9].as_slice());
         let mut keys = [4u8; 256];
         assert_eq!(rt; list.take(&mut keys), Some(3));
         assert_eq!(rt; keys[3], 4);
-        assert_eq!(rt; list.held(), &[0u8, 9]);
+        assert_eq!(rt; list.held(), [0u8, 9].as_slice());
         Ok(())
     }
 }

@@ -1,7 +1,7 @@
 //! The tests of the six calls: the first refusal that holds, or what the call works on. Nothing is changed.
 ghost use Rattle.std.specs.Prelude.{◌≡◌};
 ghost use Rattle.model.specs.Refusals.{decode_fix, decode_free, decode_load, decode_purge, decode_settle, decode_store, room_and_tables, where_is};
-ghost use Rattle.state.specs.Bare.{bare};
+ghost use Rattle.state.specs.Bare.{asked_in, bare};
 
 use crate::State;
 use model::calls::Refusal;
@@ -16,7 +16,7 @@ impl State {
         key: u8,
         frame: Option<u8>,
     ) -> Result<Request, Refusal>
-        ensures { result ≡ room_and_tables (bare self.now storage.now) page key frame }
+        ensures { asked_in result ≡ room_and_tables (bare self.now storage.now) page key frame }
     {
         if self.is_full(frame) {
             return Err(Refusal::AllFixed);
@@ -29,7 +29,7 @@ impl State {
 
     /// Load: 32, 36, 5, 4, 35, 54.
     pub fn decode_load(&self, storage: &[u8], address: u32, key: u8) -> Result<Request, Refusal>
-        ensures { result ≡ decode_load (bare self.now storage.now) address key }
+        ensures { asked_in result ≡ decode_load (bare self.now storage.now) address key }
     {
         if !self.right_length(storage) {
             return Err(Refusal::Sizes);
@@ -44,7 +44,7 @@ impl State {
 
     /// Store: the same, with 4 for a key that is neither 0 nor the page's.
     pub fn decode_store(&self, storage: &[u8], address: u32, key: u8) -> Result<Request, Refusal>
-        ensures { result ≡ decode_store (bare self.now storage.now) address key }
+        ensures { asked_in result ≡ decode_store (bare self.now storage.now) address key }
     {
         if !self.right_length(storage) {
             return Err(Refusal::Sizes);
@@ -62,7 +62,7 @@ impl State {
 
     /// Fix: 32, 5, 4, 37, 35, 54.
     pub fn decode_fix(&self, storage: &[u8], page: u32) -> Result<Request, Refusal>
-        ensures { result ≡ decode_fix (bare self.now storage.now) page }
+        ensures { asked_in result ≡ decode_fix (bare self.now storage.now) page }
     {
         if !self.right_length(storage) {
             return Err(Refusal::Sizes);
@@ -77,7 +77,7 @@ impl State {
 
     /// Free: 32, 5, 4, 38, 54.
     pub fn decode_free(&self, storage: &[u8], page: u32) -> Result<Request, Refusal>
-        ensures { result ≡ decode_free (bare self.now storage.now) page }
+        ensures { asked_in result ≡ decode_free (bare self.now storage.now) page }
     {
         if !self.right_length(storage) {
             return Err(Refusal::Sizes);

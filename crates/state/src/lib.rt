@@ -2,6 +2,7 @@
 //! frame table. `decode` has the tests of the six calls, in the order of their refusals; `tables` what they ask of the
 //! tables in main storage; `changes` what the calls change.
 #![tactic(auto)]
+
 pub mod changes;
 pub mod decode;
 mod state;

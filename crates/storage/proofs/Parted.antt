@@ -1,7 +1,7 @@
 -- What a write to a part of storage leaves, as the checker reads it.
 use Rattle.std.proofs.Common.{◌≡◌, ℕ, ◌+◌, ◌*◌, ◌/◌, ◌%◌, ◌<◌, ◌≤◌, Bool, true, cond, List, ◌++◌, length, get_or, take, drop, set, replicate, sym, refl, ap, ◌∙◌, arith}
 use borrow.Rule.Slice.PartMut.{put_mid}
-use Rattle.std.proofs.lemmas.List.{drop-drop, get_or_past, length-drop, length-take}
+use Rattle.std.proofs.lemmas.List.{set_past, drop-drop, get_or_past, length-drop, length-take}
 use Rattle.storage.specs.Bytes.{half, word, put_half, put_word, page, put_page, zeros}
 
 -- After a write of the bytes p to `&mut s[at..at + 2048]`, where k is the length of the part.
@@ -58,3 +58,9 @@ word_past s at h = rw (sym (half_past s at h), sym (half_past s (at + 2) (omega 
 pub page_short : (s : List ℕ) (at : ℕ) → length s < at + 2048 → length (page s at) < 2048
 unfolding page
 page_short s at h = let e = length-take 2048 (drop at s) in let d = length-drop at s in omega arith
+
+-- A number that would stand wholly past the end leaves storage as it was.
+pub half_out : (s : List ℕ) (at v : ℕ) → length s ≤ at → s ≡ put_half s at v
+unfolding put_half
+half_out s at v h =
+    sym (ap (λ t. set t (at + 1) (v % 256)) (set_past s at (v / 256) h) ∙ set_past s (at + 1) (v % 256) (omega arith))

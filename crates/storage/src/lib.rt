@@ -110,6 +110,26 @@ pub fn put_word(storage: &mut [u8], at: usize, value: u32) -> bool
     true
 }
 
+/// Puts a 2-byte number at `at`. A byte of it that would stand past the end of storage is dropped.
+pub fn write_half(storage: &mut [u8], at: usize, value: u16)
+    ensures { storage.new ≡ put_half storage.old at value }
+{
+    if at < storage.len() {
+        put_byte(storage, at, (value / 256) as u8);
+        put_byte(storage, at + 1, (value % 256) as u8);
+    }
+}
+
+/// Puts a 4-byte number at `at`. A byte of it that would stand past the end of storage is dropped.
+pub fn write_word(storage: &mut [u8], at: usize, value: u32)
+    ensures { storage.new ≡ put_word storage.old at value }
+{
+    write_half(storage, at, (value / 65536) as u16);
+    if storage.len().saturating_sub(at) >= 2 {
+        write_half(storage, at + 2, (value % 65536) as u16);
+    }
+}
+
 /// The 2,048 bytes at `at`, or none where they do not stand wholly in storage.
 pub fn page(storage: &[u8], at: usize) -> Option<&[u8]>
     ensures { option_map (λ x. x.now) result ≡ page_at storage.now at }

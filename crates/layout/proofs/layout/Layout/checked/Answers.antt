@@ -11,7 +11,7 @@ invariant_of-result c =
     let t = c.if-not-sizes_fit.ensures in
     let e = c.in-Some.ensures in
     let kept = listed c.in-Some.partitions in
-    (few given s kept t e, (within given s kept t e, (below given s kept t e, (most given s kept t e, (low given s kept t e, tt)))))
+    record { few = few given s kept t e; within = within given s kept t e; below = below given s kept t e; most = most given s kept t e; low = low given s kept t e }
 
 pub returns-then-not-sizes_fit : goal.returns-then-not-sizes_fit
 returns-then-not-sizes_fit c =

@@ -13,9 +13,9 @@ loop-segment-init c =
 
 pub loop-segment-preserved : goal.loop-segment-preserved
 loop-segment-preserved c =
-    segments_turn (config_of c.args.self.now) c.loop-segment.segment c.segment_entries-count.result c.loop-segment.storage c.put_word.new.storage _
+    segments_turn (config_of c.args.self.now) c.loop-segment.segment c.segment_entries-count.result c.loop-segment.storage c.write_word.new.storage _
     c.loop-segment-test.true
-    (c.put_word.ensures.after ∙ ap (λ at. put_word c.loop-segment.storage at c.segment_word.result) c.segment_place.ensures
+    (c.write_word.ensures ∙ ap (λ at. put_word c.loop-segment.storage at c.segment_word.result) c.segment_place.ensures
     ∙ ap (put_word c.loop-segment.storage (segment_at c.loop-segment.segment)) c.segment_word.ensures)
     c.loop-segment.invariant
 

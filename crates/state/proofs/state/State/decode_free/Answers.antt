@@ -2,7 +2,7 @@ use Rattle.std.proofs.Common.{◌≡◌, Err, ap, ◌∙◌}
 use Rattle.std.proofs.lemmas.Result.{err_from_is_err_and}
 use Rattle.model.specs.Refusals.{fixes_of}
 use Rattle.state.proofs.Decoding.{free_none, free_ready, free_sizes, free_unfixed, free_wrong}
-use Rattle.state.specs.Bare.{bare, records_in}
+use Rattle.state.specs.Bare.{asked_in, bare, records_in}
 use Rattle.state.proofs.state.State.decode_free.Goals as goal
 
 pub returns-then-not-right_length : goal.returns-then-not-right_length
@@ -11,7 +11,7 @@ returns-then-not-right_length c = free_sizes (bare c.args.self.now c.args.storag
 pub returns-in_err-key : goal.returns-in_err-key
 returns-in_err-key c =
     let p = err_from_is_err_and c.from_residual.result c.from_residual.ensures.1 in
-    p.1 ∙ ap Err p.2 ∙ free_none (bare c.args.self.now c.args.storage.now) c.args.page c.in_err-key.field-0.0 c.if-not-right_length.ensures c.in_err-key.ensures.answer
+    ap asked_in p.1 ∙ ap Err p.2 ∙ free_none (bare c.args.self.now c.args.storage.now) c.args.page c.in_err-key.field-0.0 c.if-not-right_length.ensures c.in_err-key.ensures.answer
 
 pub returns-then-fixes_of-eq0 : goal.returns-then-fixes_of-eq0
 returns-then-fixes_of-eq0 c =

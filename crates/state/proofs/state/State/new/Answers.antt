@@ -8,4 +8,4 @@ use Rattle.state.proofs.state.State.new.Goals as goal
 pub invariant_of-result : goal.invariant_of-result
 invariant_of-result c =
     let z : (config_of c.none.result).frames ≡ 0 = ap (λ (k : Config). k.frames) c.none.ensures in
-    (sym (fixed_none (records_of c.new.result) c.none.result.supervisor c.none.result.frames (omega arith)), tt)
+    record { count = sym (fixed_none (records_of c.new.result) c.none.result.supervisor c.none.result.frames (omega arith)) }

@@ -28,13 +28,12 @@ invariant_of-self c =
     let row : c.args.frame < length (records_in st) = (let l = st.table.long in omega arith) in
     let all = changed (records_in st) st.layout.supervisor st.layout.frames c.args.frame c.args.fixes row st.fixed c.counts-then-pageable.result c.counts.result
     (sym c.if-pageable.ensures) st.count (c.counts-then-pageable.ensures ∙ ap (λ (r : FrameRecord). cond (ltb 0 r.fixes) 1 0) c.record-before.ensures) c.counts.ensures in
-    (all.3 ∙ sym (ap (λ rs. fixed_in rs st.layout.supervisor (st.layout.frames - st.layout.supervisor)) c.set_fixes.ensures.one), tt)
+    record { count = all.3 ∙ sym (ap (λ rs. fixed_in rs st.layout.supervisor (st.layout.frames - st.layout.supervisor)) c.set_fixes.ensures.one) }
 
 pub invariant_of-self-else-pageable : goal.invariant_of-self-else-pageable
 invariant_of-self-else-pageable c =
     let st = c.args.self.now in
-    let row : c.args.frame < length (records_in st) = (let l = st.table.long in omega arith) in (
-      st.count ∙ sym (other (records_in st) st.layout.supervisor st.layout.frames c.args.frame c.args.fixes row (sym c.if-pageable.ensures))
-          ∙ sym (ap (λ rs. fixed_in rs st.layout.supervisor (st.layout.frames - st.layout.supervisor)) c.set_fixes.ensures.one),
-      tt,
-    )
+    let row : c.args.frame < length (records_in st) = (let l = st.table.long in omega arith) in record {
+      count = st.count ∙ sym (other (records_in st) st.layout.supervisor st.layout.frames c.args.frame c.args.fixes row (sym c.if-pageable.ensures))
+          ∙ sym (ap (λ rs. fixed_in rs st.layout.supervisor (st.layout.frames - st.layout.supervisor)) c.set_fixes.ensures.one);
+    }
