@@ -1,9 +1,8 @@
 -- The tables written and tested entry by entry, and what the tests of IPL leave.
-use Rattle.std.proofs.Common.{◌≡◌, ℕ, zero, suc, ◌+◌, ◌-◌, ◌*◌, ◌/◌, ◌<◌, ◌≤◌, Bool, true, false, cond, ◌&&◌, eqb, ltb, leb, List, length, Some, None, Ok, Err, Option, Result, sym, refl, ap, ◌∙◌, arith}
-use Rattle.model.specs.declared.calls.IplRefusal.{IplRefusal}
+use Rattle.std.proofs.Common.{◌≡◌, ℕ, zero, suc, ◌+◌, ◌-◌, ◌*◌, ◌/◌, ◌<◌, ◌≤◌, Bool, true, false, cond, ◌&&◌, eqb, ltb, leb, List, length, Some, None, Ok, Err, sym, refl, ap, ◌∙◌, arith}
 use Rattle.model.specs.declared.calls.IplRefusal.TheVariants.{Sizes, Partitions}
 use Rattle.model.specs.declared.shape.Partition.{Partition}
-use Rattle.model.specs.Ipl.{first_entry, in_order, partitions_fit, sizes_fit, with_entries, with_segments}
+use Rattle.model.specs.Ipl.{first_entry, partitions_fit, sizes_fit, with_entries, with_segments}
 use Rattle.model.specs.Layout.{entry_at, key_of, segment_at, segment_word, segments_are}
 use Rattle.model.specs.Law.{Fits}
 use Rattle.model.specs.World.{Config}

@@ -1,5 +1,5 @@
 -- Loops over numbers that count up, against the recursion that counts down: what is left of the numbers gives the whole.
-use Rattle.std.proofs.Common.{◌≡◌, ℕ, zero, suc, ◌+◌, ◌-◌, ◌<◌, ◌≤◌, Bool, true, false, ◌&&◌, sym, refl, ap, ◌∙◌, arith}
+use Rattle.std.proofs.Common.{◌≡◌, ℕ, zero, suc, ◌+◌, ◌-◌, ◌<◌, ◌≤◌, Bool, true, false, ◌&&◌, sym, ap, ◌∙◌, arith}
 
 -- one more is left than after this turn; none is left; and all are left
 pub more : (n f : ℕ) → f < n → n - f ≡ suc (n - (f + 1))

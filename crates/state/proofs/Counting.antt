@@ -1,5 +1,5 @@
 -- The number of fixed pages, as one fix count changes.
-use Rattle.std.proofs.Common.{◌≡◌, ℕ, zero, suc, ◌+◌, ◌-◌, ◌<◌, ◌≤◌, Bool, true, false, cond, ◌&&◌, ltb, leb, ◌⊎◌, List, length, set, sym, refl, ap, ◌∙◌, inl, inr, arith}
+use Rattle.std.proofs.Common.{◌≡◌, ℕ, zero, suc, ◌+◌, ◌-◌, ◌<◌, ◌≤◌, Bool, true, false, cond, ◌&&◌, ltb, leb, ◌⊎◌, List, length, sym, refl, ap, ◌∙◌, inl, inr, arith}
 use Rattle.std.proofs.lemmas.Bool.{and_cases, and_parts, cases_eq, leb-false, leb-true, ltb-false, ltb-true}
 use Rattle.model.specs.declared.shape.FrameRecord.{FrameRecord}
 use Rattle.model.specs.Layout.{counted, fixed_in, fixes_in}

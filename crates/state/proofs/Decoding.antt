@@ -1,8 +1,8 @@
 -- The tests of each call, one after another: where one fails its refusal is the answer, and where all pass what is left.
-use Rattle.std.proofs.Common.{◌≡◌, ℕ, ◌+◌, ◌-◌, ◌*◌, ◌/◌, ◌<◌, ◌≤◌, Bool, true, false, cond, ◌&&◌, ◌||◌, eqb, ltb, leb, Ok, Err, Option, Result, sym, refl, ap, ◌∙◌, arith}
-use Rattle.std.proofs.lemmas.Bool.{eq-eqb, le-leb, le-ltb, lt-leb, lt-ltb, ne_eqb}
+use Rattle.std.proofs.Common.{◌≡◌, ℕ, ◌-◌, ◌*◌, ◌/◌, ◌<◌, ◌≤◌, Bool, true, false, cond, ◌&&◌, ◌||◌, eqb, ltb, leb, Ok, Err, Option, Result, sym, ap, ◌∙◌, arith}
+use Rattle.std.proofs.lemmas.Bool.{le-leb, le-ltb, lt-leb, lt-ltb}
 use Rattle.model.specs.declared.calls.Refusal.{Refusal}
-use Rattle.model.specs.declared.calls.Refusal.TheVariants.{Sizes, Key, Addressing, Protection, FixLimit, NotFixed, AllFixed, Tables}
+use Rattle.model.specs.declared.calls.Refusal.TheVariants.{Sizes, Key, Protection, FixLimit, NotFixed, AllFixed, Tables}
 use Rattle.model.specs.Layout.{entries_are, frames_are, segment_entries, segments, segments_are}
 use Rattle.model.specs.Refusals.{Request, and_then, decode_fix, decode_free, decode_load, decode_purge, decode_settle, decode_store, fixes_of, full, page_key, right_length, room_and_tables, tables_right, unless, where_is}
 use Rattle.model.specs.World.{World}

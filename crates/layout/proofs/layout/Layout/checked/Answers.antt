@@ -1,4 +1,3 @@
-use Rattle.std.proofs.Common.{ℕ, List}
 use Rattle.model.specs.World.{Config}
 use Rattle.layout.proofs.Made.{below, few, kept_ok, low, most, partitions_refused, sizes_refused, within}
 use Rattle.partitions.specs.Listed.{listed}

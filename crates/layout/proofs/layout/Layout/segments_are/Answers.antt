@@ -1,4 +1,4 @@
-use Rattle.std.proofs.Common.{◌≡◌, ap, ◌∙◌}
+use Rattle.std.proofs.Common.{ap, ◌∙◌}
 use Rattle.layout.proofs.Made.{segment_fails, segment_passes, segments_pass}
 use Rattle.layout.proofs.Sweeps.{all}
 use Rattle.model.specs.Layout.{segments_are}

@@ -1,4 +1,4 @@
-use Rattle.std.proofs.Common.{◌≡◌, ◌+◌, ◌*◌, ap, ◌∙◌}
+use Rattle.std.proofs.Common.{◌*◌, ap, ◌∙◌}
 use Rattle.model.specs.Ipl.{with_entries}
 use Rattle.model.specs.Layout.{entry_at}
 use Rattle.storage.specs.Bytes.{put_half}

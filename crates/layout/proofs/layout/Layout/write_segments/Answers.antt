@@ -1,6 +1,6 @@
-use Rattle.std.proofs.Common.{◌≡◌, ◌+◌, ◌*◌, ap, ◌∙◌}
+use Rattle.std.proofs.Common.{ap, ◌∙◌}
 use Rattle.model.specs.Ipl.{with_segments}
-use Rattle.model.specs.Layout.{segment_at, segment_word}
+use Rattle.model.specs.Layout.{segment_at}
 use Rattle.storage.specs.Bytes.{put_word}
 use Rattle.layout.proofs.Made.{segments_done, segments_turn}
 use Rattle.layout.proofs.Sweeps.{all}

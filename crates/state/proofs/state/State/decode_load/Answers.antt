@@ -1,4 +1,4 @@
-use Rattle.std.proofs.Common.{◌≡◌, ◌/◌, Err, ap, ◌∙◌}
+use Rattle.std.proofs.Common.{◌/◌, Err, ap, ◌∙◌}
 use Rattle.std.proofs.lemmas.Result.{err_from_is_err_and}
 use Rattle.model.specs.Refusals.{room_and_tables}
 use Rattle.state.proofs.Decoding.{load_high, load_none, load_sizes, load_there}

@@ -1,4 +1,4 @@
-use Rattle.std.proofs.Common.{◌≡◌, ◌*◌, ap, ◌∙◌}
+use Rattle.std.proofs.Common.{◌*◌, ap, ◌∙◌}
 use Rattle.layout.proofs.Sweeps.{all}
 use Rattle.model.specs.Layout.{entries_are, entry_is}
 use Rattle.state.proofs.Tested.{entries_pass, entry_fails, entry_passes}

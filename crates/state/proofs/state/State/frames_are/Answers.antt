@@ -1,4 +1,4 @@
-use Rattle.std.proofs.Common.{◌≡◌, ◌-◌, ap, ◌∙◌}
+use Rattle.std.proofs.Common.{◌-◌, ap, ◌∙◌}
 use Rattle.model.specs.Layout.{frames_are}
 use Rattle.state.proofs.Tested.{frame_fails, frame_passes, frames_pass}
 use Rattle.state.specs.Bare.{config_in, records_in}

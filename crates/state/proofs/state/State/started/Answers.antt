@@ -1,4 +1,4 @@
-use Rattle.std.proofs.Common.{◌≡◌, refl, ap, ◌∙◌}
+use Rattle.std.proofs.Common.{refl, ap, ◌∙◌}
 use Rattle.model.specs.Ipl.{own_pages}
 use Rattle.table.specs.Table.{records_of}
 use Rattle.state.proofs.state.State.started.Goals as goal
