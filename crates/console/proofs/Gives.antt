@@ -1,5 +1,5 @@
 -- What an answered read gives.
-use Rattle.std.proofs.Common.{◌≡◌, ℕ, List, Some, None, Ok, Err, Option, refl, arith}
+use Rattle.std.proofs.Common.{◌≡◌, ℕ, List, Some, None, Ok, Option, refl, arith}
 use Rattle.pages.specs.declared.fault.StoreRefusal.{StoreRefusal}
 use Rattle.pages.specs.Store.{Rules, told, read_into}
 

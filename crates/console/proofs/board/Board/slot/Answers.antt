@@ -1,4 +1,4 @@
-use Rattle.std.proofs.Common.{◌≡◌, sym, refl, ap, ◌∙◌, rules}
+use Rattle.std.proofs.Common.{refl, ap, ◌∙◌}
 use Rattle.listing.specs.Digests.{digest_text}
 use Rattle.console.specs.Stores.{area_of, rules_of, slot_refusal}
 use Rattle.console.proofs.Gives.{read_ok}
