@@ -7,7 +7,7 @@ mod lines;
 use lines::Console;
 use script::wrong::Wrong;
 use std::fs::File;
-use std::io::{BufRead, BufReader};
+use std::io::{BufRead, BufReader, Read};
 use std::{env, io};
 
 // Carries one line of the script out, and prints what it answers.
@@ -67,13 +67,21 @@ fn work<R: BufRead + Drop>(rt: &HostRuntime, mut script: R) -> io::Result<()> {
     Ok(())
 }
 
+// Works a script that is read from a source. Where there is no memory to read with, that is wrong.
+fn work_from<R: Read + Drop>(rt: &HostRuntime, source: R) -> io::Result<()> {
+    match BufReader::new(rt.alloc(), source) {
+        Ok(script) => work(rt, script),
+        Err(_) => complain(rt, 0, Wrong::Memory),
+    }
+}
+
 fn main(rt: HostRuntime) -> io::Result<()> {
     let mut args = env::args(&rt)?;
     let Some(path) = args.nth(1) else {
-        return work(&rt, BufReader::new(rt.alloc(), rt.stdin())?);
+        return work_from(&rt, rt.stdin());
     };
     match File::open(&rt, path) {
-        Ok(file) => work(&rt, BufReader::new(rt.alloc(), file)?),
+        Ok(file) => work_from(&rt, file),
         Err(_) => complain(&rt, 0, Wrong::Unreadable),
     }
 }
