@@ -39,7 +39,8 @@ impl State {
         }
         let own = self.layout.page_key(address / 2048)?;
         let page = (address / 2048) as u16;
-        self.room_and_tables(storage, page, own, self.frame_of(storage, page))
+        let frame = self.frame_of(storage, page);
+        self.room_and_tables(storage, page, own, frame)
     }
 
     /// Store: the same, with 4 for a key that is neither 0 nor the page's.

@@ -19,6 +19,6 @@ returns-in_err-own c =
 pub returns : goal.returns
 returns c =
     c.room_and_tables.ensures
-    ∙ ap (room_and_tables (bare c.args.self.now c.args.storage.now) (c.args.address / 2048) c.in_ok-own.own) c.frame_of.ensures
+    ∙ ap (room_and_tables (bare c.args.self.now c.args.storage.now) (c.args.address / 2048) c.in_ok-own.own) c.frame_of-frame.ensures
     ∙ load_there (bare c.args.self.now c.args.storage.now) c.args.address c.args.key c.in_ok-own.own
     c.if-not-right_length.ensures c.if-key-gt15.false c.in_ok-own.ensures.answer
