@@ -1,2 +1,4 @@
 pub mod Bytes
 pub mod Laws
+pub mod Over
+pub mod Numbers

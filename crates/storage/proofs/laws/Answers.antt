@@ -1,5 +1,5 @@
 use Rattle.std.proofs.Common.{refl}
-use Rattle.storage.proofs.Over.{laws, elsewhere}
+use Rattle.storage.specs.Over.{laws, elsewhere}
 use Rattle.storage.proofs.laws.Goals as goal
 
 pub returns : goal.returns

@@ -1,10 +1,10 @@
-use Rattle.std.proofs.Common.{ap, ◌∙◌, arith, rules}
-use Rattle.storage.proofs.Parted.{put_mid_lem}
+use Rattle.std.proofs.Common.{◌≡◌, ◌+◌, ◌++◌, cond, length, take, drop, ap, ◌∙◌, arith}
 use Rattle.storage.specs.Bytes.{put_page}
 use Rattle.storage.proofs.put_page.Goals as goal
 
-pub returns : goal.returns
-returns c = record {
-  answer = search rules;
-  after = put_mid_lem c.args.storage.now c.copy_from_slice.new.self c.args.at _ (omega arith) ∙ ap (put_page c.args.storage.now c.args.at) c.copy_from_slice.ensures.after;
-}
+pub returns-then-page-eq-PAGE-clause-after : goal.returns-then-page-eq-PAGE-clause-after
+unfolding put_page
+returns-then-page-eq-PAGE-clause-after c =
+    let s = c.args.storage.now in
+    let long : length c.args.page.now ≡ 2048 = omega arith in
+    c.put_bytes.ensures.after ∙ ap (λ n. cond c.put_bytes.result (take c.args.at s ++ (c.args.page.now ++ drop (c.args.at + n) s)) s) long

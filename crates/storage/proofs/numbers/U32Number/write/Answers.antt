@@ -1,0 +1,8 @@
+use Rattle.std.proofs.Common.{arith}
+use Rattle.storage.proofs.Parted.{set_four}
+use Rattle.storage.proofs.numbers.U32Number.write.Goals as goal
+
+pub returns : goal.returns
+returns c =
+    set_four c.args.storage.now _ _ _ _ c.to_be_bytes.result c.args.at c.args.self (omega arith) c.to_be_bytes.ensures c.put_byte.ensures
+    c.put_byte_after.ensures c.put_byte_after-2.ensures c.put_byte_after-3.ensures
