@@ -1,20 +1,7 @@
 -- What looking for a key finds.
-use Rattle.std.proofs.Common.{◌≡◌, ℕ, zero, suc, ◌+◌, ◌-◌, ◌<◌, ◌≤◌, Bool, true, false, cond, eqb, ◌⊎◌, List, [], ◌∷◌, length, get_or, drop, Some, None, sym, ap, ◌∙◌, inl, inr, arith}
-use Rattle.std.proofs.lemmas.List.{at_drop_more}
+use Rattle.std.proofs.Common.{◌≡◌, ℕ, zero, suc, ◌+◌, ◌-◌, ◌<◌, ◌≤◌, true, false, eqb, ◌⊎◌, List, [], ◌∷◌, length, get_or, Some, None, sym, ◌∙◌, inl, inr, arith}
 use Rattle.std.proofs.lemmas.Bool.{eq-eqb, ne_eqb, cases_eq, cond-true, cond-false}
 use Rattle.recency.specs.Places.{place_of}
-
--- one step of the search: the element at place i is x
-module _ {E : Type 0} (keyed : E → ℕ) (k : ℕ) (xs : List E) (i : ℕ) (x : E) (h : i < length xs) (is : x ≡ get_or xs i x) where
-  split : (b : Bool) → eqb (keyed (get_or xs i x)) k ≡ b
-      → place_of keyed k (drop i xs) i ≡ cond b (Some i) (place_of keyed k (drop (i + 1) xs) (i + 1))
-  split b e = at_drop_more (λ l. place_of keyed k l i) xs i x h ∙ ap (λ b. cond b (Some i) (place_of keyed k (drop (i + 1) xs) (i + 1))) e
-
-  pub here : keyed x ≡ k → place_of keyed k (drop i xs) i ≡ Some i
-  here e = split true (eq-eqb _ _ (ap keyed (sym is) ∙ e))
-
-  pub later : (keyed x ≡ k → ⊥) → place_of keyed k (drop i xs) i ≡ place_of keyed k (drop (i + 1) xs) (i + 1)
-  later ne = split false (ne_eqb _ _ (λ e. ne (ap keyed is ∙ e)))
 
 -- a test of the first element's key, and the equation that says how it came out
 pub first : {E : Type 0} (keyed : E → ℕ) (k : ℕ) (x : E) → ((keyed x ≡ k) × (eqb (keyed x) k ≡ true)) ⊎ ((keyed x ≡ k → ⊥) × (eqb (keyed x) k ≡ false))

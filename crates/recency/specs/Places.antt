@@ -1,11 +1,10 @@
 -- Places in a list, and what it is without an element, with it at the end, or with a new one put last.
-use Rattle.std.specs.Prelude.{ℕ, zero, suc, ◌+◌, ◌-◌, cond, List, [], ◌∷◌, ◌++◌, length, take, drop, Some, None, Option, ◌==◌}
-use Rattle.std.specs.List.{remove}
+use Rattle.std.specs.Prelude.{ℕ, zero, suc, ◌+◌, ◌-◌, cond, List, [], ◌∷◌, ◌++◌, length, take, drop, Option, ◌==◌}
+use Rattle.std.specs.List.{position_from, remove}
 
 -- the place of the first element with this key, where the first place is n
 abbrev pub place_of : {E : Type 0} → (E → ℕ) → ℕ → List E → ℕ → Option ℕ
-place_of keyed k [] n = None
-place_of keyed k (x ∷ xs) n = cond (keyed x == k) (Some n) (place_of keyed k xs (n + 1))
+place_of keyed k xs n = position_from (λ x. keyed x == k) n xs
 
 -- how many elements have this key
 abbrev pub count_of : {E : Type 0} → (E → ℕ) → ℕ → List E → ℕ

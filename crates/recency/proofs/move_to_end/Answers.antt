@@ -1,16 +1,6 @@
-use Rattle.std.proofs.Common.{length, sym, refl}
-use Rattle.std.proofs.lemmas.Bool.{lt-ltb, le-ltb}
-use Rattle.recency.proofs.Turn.{turned, at_end_past}
+use Rattle.std.proofs.Common.{refl}
+use Rattle.recency.proofs.Turn.{turned}
 use Rattle.recency.proofs.move_to_end.Goals as goal
 
-pub returns-then-place-count : goal.returns-then-place-count
-returns-then-place-count g c = record {
-  answer = sym (le-ltb c.args.place (length c.args.list.now) c.if-place-count.true);
-  after = sym (at_end_past c.args.list.now c.args.place c.if-place-count.true);
-}
-
-pub returns : goal.returns
-returns g c = record {
-  answer = sym (lt-ltb c.args.place (length c.args.list.now) c.if-place-count.false);
-  after = turned c.args.list.now _ c.args.place _ refl c.if-place-count.false c.rotate_left.ensures.after;
-}
+pub returns-clause-after : goal.returns-clause-after
+returns-clause-after g c = turned c.args.list.now _ c.args.place _ refl c.if-place-list.false c.rotate_left.ensures.after
