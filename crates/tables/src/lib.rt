@@ -5,25 +5,28 @@
 //! own words, in `specs/Leads.antt`.
 #![tactic(auto)]
 
-ghost use Rattle.std.specs.Prelude.{◌≡◌, ℕ, ◌+◌, ◌-◌, ◌*◌, ◌/◌, ◌%◌, ◌^◌, ◌<◌, ◌≤◌, OnOk};
+ghost use Rattle.std.specs.Prelude.{◌≡◌, ◌≢◌, ◌↔◌, ℕ, ◌+◌, ◌-◌, ◌*◌, ◌/◌, ◌%◌, ◌^◌, ◌<◌, ◌≤◌, IsTrue, Ok, OnOk, All, ◌==◌};
+ghost use Rattle.std.specs.List.{list_all};
 ghost use Rattle.tables.specs.Bits.{half_bits, word_bits};
 ghost use Rattle.tables.specs.Leads.{Exact};
-ghost use Rattle.tables.specs.Walk.{byte_index, checked, frame_field, frame_start, invalid, located, number_of, page_bytes, page_entry, page_index, page_number, reserved_off, segment_bytes, segment_entry, segment_index, sizes_of, sound_page, sound_segment, valid_page, walk};
+ghost use Rattle.tables.specs.Walk.{and_then, byte_index, checked, frame_field, invalid, located, number_of, page_bytes, page_entry, page_index, page_number, page_size_of, segment_bytes, segment_entry, segment_index, segment_size_of, sizes_of, sound_page, sound_segment, valid_page, walk};
+
+use std::marker::Model;
 
 /// Both control words of a translator.
-#[derive(Clone, Copy, PartialEq, Eq)]
+#[derive(Clone, Copy, Debug, Default, PartialEq, Eq)]
 pub struct Controls {
     pub cr0: u32,
     pub cr1: u32,
 }
 
 /// Why an address has no real address: the exception that the architecture gives it.
-#[derive(Clone, Copy, PartialEq, Eq, Debug)]
+#[derive(Clone, Copy, Debug, PartialEq, Eq)]
 pub enum Refusal {
-    Addressing,
-    SegmentTranslation,
-    PageTranslation,
-    TranslationSpecification,
+    Addressing = 5,
+    SegmentTranslation = 16,
+    PageTranslation = 17,
+    TranslationSpecification = 18,
 }
 
 impl Refusal {
@@ -31,53 +34,66 @@ impl Refusal {
     pub fn number(self) -> u8
         ensures { result ≡ number_of self }
     {
-        match self {
-            Refusal::Addressing => 5,
-            Refusal::SegmentTranslation => 16,
-            Refusal::PageTranslation => 17,
-            Refusal::TranslationSpecification => 18,
-        }
+        self as u8
     }
 }
 
 /// The size of a page.
-#[derive(Clone, Copy, PartialEq, Eq)]
+#[derive(Clone, Copy, Debug, PartialEq, Eq)]
 pub enum PageSize {
-    Bytes2048,
-    Bytes4096,
+    Bytes2048 = 2048,
+    Bytes4096 = 4096,
 }
 
 impl PageSize {
+    /// How many bytes a page has.
     pub fn bytes(self) -> u32
         ensures { result ≡ page_bytes self }
     {
-        match self {
-            PageSize::Bytes2048 => 2048,
-            PageSize::Bytes4096 => 4096,
+        self as u32
+    }
+
+    // The size that bits 8 and 9 of control word 0 name. No `TryFrom`: a size as a number is its count of bytes.
+    fn named(bits: u32) -> Option<PageSize>
+        ensures { result ≡ page_size_of bits }
+    {
+        match bits {
+            1 => Some(PageSize::Bytes2048),
+            2 => Some(PageSize::Bytes4096),
+            _ => None,
         }
     }
 }
 
 /// The size of a segment.
-#[derive(Clone, Copy, PartialEq, Eq)]
+#[derive(Clone, Copy, Debug, PartialEq, Eq)]
 pub enum SegmentSize {
-    Bytes65536,
-    Bytes1048576,
+    Bytes65536 = 65_536,
+    Bytes1048576 = 1_048_576,
 }
 
 impl SegmentSize {
+    /// How many bytes a segment has.
     pub fn bytes(self) -> u32
         ensures { result ≡ segment_bytes self }
     {
-        match self {
-            SegmentSize::Bytes65536 => 65_536,
-            SegmentSize::Bytes1048576 => 1_048_576,
+        self as u32
+    }
+
+    // The size that bits 11 and 12 of control word 0 name. No `TryFrom`: a size as a number is its count of bytes.
+    fn named(bits: u32) -> Option<SegmentSize>
+        ensures { result ≡ segment_size_of bits }
+    {
+        match bits {
+            0 => Some(SegmentSize::Bytes65536),
+            2 => Some(SegmentSize::Bytes1048576),
+            _ => None,
         }
     }
 }
 
 /// The sizes that control word 0 names.
-#[derive(Clone, Copy, PartialEq, Eq)]
+#[derive(Clone, Copy, Debug, PartialEq, Eq)]
 pub struct Sizes {
     pub page: PageSize,
     pub segment: SegmentSize,
@@ -126,7 +142,15 @@ fn word_bits(word: u32, first: u32, last: u32) -> u32
     (word >> (31 - last)) % (1 << (last + 1 - first))
 }
 
-// Bits `first` to `last` of a halfword as a number, bit 0 leftmost.
+// Whether each of these bits of a word is off.
+fn all_off(word: u32, bits: &[u32]) -> bool
+    requires { All (λ b. b < 32) bits.now }
+    ensures { result ≡ list_all (λ b. word_bits b b word == 0) bits.now }
+{
+    bits.iter().all(|&bit| word_bits(word, bit, bit) == 0)
+}
+
+// Bits `first` to `last` of a halfword as a number, bit 0 leftmost: those of the word with 16 zero bits left of it.
 fn half_bits(half: u16, first: u32, last: u32) -> u32
     requires { (first ≤ last) × (last < 16) }
     ensures { result ≡ half_bits first last half }
@@ -134,27 +158,20 @@ fn half_bits(half: u16, first: u32, last: u32) -> u32
     word_bits(u32::from(half), first + 16, last + 16)
 }
 
-// The page and segment size that control word 0 names, or none where it names no pair of them.
+/// The page and segment size that control word 0 names, or none where it names no pair of them.
 pub fn named_sizes(cr0: u32) -> Option<Sizes>
     ensures { result ≡ sizes_of cr0 }
 {
     if word_bits(cr0, 10, 10) != 0 {
         return None;
     }
-    let page = match word_bits(cr0, 8, 9) {
-        1 => PageSize::Bytes2048,
-        2 => PageSize::Bytes4096,
-        _ => return None,
-    };
-    let segment = match word_bits(cr0, 11, 12) {
-        0 => SegmentSize::Bytes65536,
-        2 => SegmentSize::Bytes1048576,
-        _ => return None,
-    };
+    let page = PageSize::named(word_bits(cr0, 8, 9))?;
+    let segment = SegmentSize::named(word_bits(cr0, 11, 12))?;
     Some(Sizes { page, segment })
 }
 
 /// The first two steps: the address has 24 bits, and control word 0 names the sizes.
+#[tactic(auto, unfolding(crate::specs::Walk::checked))]
 pub fn checked(controls: Controls, address: u32) -> Result<Sizes, Refusal>
     ensures answer { result ≡ checked controls address }
     ensures short { OnOk result (address < 16777216) }
@@ -162,126 +179,135 @@ pub fn checked(controls: Controls, address: u32) -> Result<Sizes, Refusal>
     if address >= ADDRESSES {
         return Err(Refusal::Addressing);
     }
-    match named_sizes(controls.cr0) {
-        Some(sizes) => Ok(sizes),
-        None => Err(Refusal::TranslationSpecification),
+    named_sizes(controls.cr0).ok_or(Refusal::TranslationSpecification)
+}
+
+impl Controls {
+    // The segment entry of a segment, in the table that control word 1 names.
+    fn segment_entry(self, storage: &[u8], segment: u32) -> Result<SegmentEntry, Refusal>
+        requires { segment < 256 }
+        ensures { result ≡ segment_entry storage.now self segment }
+    {
+        if segment / 16 > word_bits(self.cr1, 0, 7) {
+            return Err(Refusal::SegmentTranslation);
+        }
+        let place = 64 * word_bits(self.cr1, 8, 25) + 4 * segment;
+        let entry = storage::read_number::<u32>(storage, place as usize).ok_or(
+            Refusal::Addressing,
+        )?;
+        SegmentEntry::try_from(entry)
     }
 }
 
-// Whether bits 4 to 7, 29 and 30 of a segment entry are all off.
-fn reserved_off(entry: u32) -> bool
-    ensures { result ≡ reserved_off entry }
-{
-    word_bits(entry, 4, 4) == 0
-        && word_bits(entry, 5, 5) == 0
-        && word_bits(entry, 6, 6) == 0
-        && word_bits(entry, 7, 7) == 0
-        && word_bits(entry, 29, 29) == 0
-        && word_bits(entry, 30, 30) == 0
+// A segment entry whose reserved bits are off and that is valid.
+#[derive(Clone, Copy)]
+struct SegmentEntry {
+    bits: u32,
 }
 
-// A segment entry that was read: its reserved bits are off, and it is valid.
-fn sound_segment(entry: u32) -> Result<u32, Refusal>
-    ensures { result ≡ sound_segment entry }
-{
-    if !reserved_off(entry) {
-        return Err(Refusal::TranslationSpecification);
-    }
-    if word_bits(entry, 31, 31) != 0 {
-        return Err(Refusal::SegmentTranslation);
-    }
-    Ok(entry)
+impl Model for SegmentEntry {
+    ghost Value = { ℕ };
+
+    ghost view = { λ e. e.bits };
+
+    ghost inverse = { λ n. record { bits = n } };
 }
 
-// The segment entry of a segment, in the table that control word 1 names.
-fn segment_entry(storage: &[u8], controls: Controls, segment: u32) -> Result<u32, Refusal>
-    requires { segment < 256 }
-    ensures { result ≡ segment_entry storage.now controls segment }
-{
-    if segment / 16 > word_bits(controls.cr1, 0, 7) {
-        return Err(Refusal::SegmentTranslation);
-    }
-    let place = 64 * word_bits(controls.cr1, 8, 25) + 4 * segment;
-    match storage::word(storage, place as usize) {
-        Some(entry) => sound_segment(entry),
-        None => Err(Refusal::Addressing),
+// A segment entry that was read: bits 4 to 7, 29 and 30 are off, and it is valid.
+impl TryFrom<u32> for SegmentEntry {
+    type Error = Refusal;
+
+    ghost try_from_gives = { λ bits r. r ≡ sound_segment bits };
+
+    fn try_from(bits: u32) -> Result<SegmentEntry, Refusal> {
+        if !all_off(bits, &[4, 5, 6, 7, 29, 30]) {
+            return Err(Refusal::TranslationSpecification);
+        }
+        if word_bits(bits, 31, 31) != 0 {
+            return Err(Refusal::SegmentTranslation);
+        }
+        Ok(SegmentEntry { bits })
     }
 }
 
-// Whether the reserved bits of a page entry are off: bit 14, and with pages of 4,096 bytes bit 13 too.
-fn sound_page(size: PageSize, entry: u16) -> bool
-    ensures { result ≡ sound_page size entry }
-{
-    match size {
-        PageSize::Bytes2048 => half_bits(entry, 14, 14) == 0,
-        PageSize::Bytes4096 => half_bits(entry, 14, 14) == 0 && half_bits(entry, 13, 13) == 0,
+impl SegmentEntry {
+    // The page entry of a page, in the table that this segment entry names.
+    fn page_entry(self, storage: &[u8], sizes: Sizes, page: u32) -> Result<PageEntry, Refusal>
+        requires { page < 512 }
+        ensures { result ≡ and_then (page_entry storage.now sizes self page) (λ h. Ok (record { size = sizes.page; bits = h })) }
+    {
+        let pages = sizes.segment.bytes() / sizes.page.bytes();
+        if page * 16 / pages > word_bits(self.bits, 0, 3) {
+            return Err(Refusal::PageTranslation);
+        }
+        let place = 8 * word_bits(self.bits, 8, 28) + 2 * page;
+        let entry = storage::read_number::<u16>(storage, place as usize).ok_or(
+            Refusal::Addressing,
+        )?;
+        PageEntry::new(sizes.page, entry)
     }
 }
 
-// The invalid bit of a page entry.
-fn invalid_bit(size: PageSize, entry: u16) -> u32
-    ensures { result ≡ invalid size entry }
-{
-    match size {
-        PageSize::Bytes2048 => half_bits(entry, 13, 13),
-        PageSize::Bytes4096 => half_bits(entry, 12, 12),
-    }
+// A page entry as it stands in storage, and the size of its page.
+#[derive(Clone, Copy)]
+struct PageEntry {
+    size: PageSize,
+    bits: u16,
 }
 
-// The frame field of a page entry: the bits left of the invalid bit.
-fn frame_field(size: PageSize, entry: u16) -> u32
-    ensures value { result ≡ frame_field size entry }
-    ensures small { result < 8192 }
-{
-    match size {
-        PageSize::Bytes2048 => half_bits(entry, 0, 12),
-        PageSize::Bytes4096 => half_bits(entry, 0, 11),
+impl PageEntry {
+    // A page entry that was read: its reserved bits are off, and it is valid.
+    fn new(size: PageSize, bits: u16) -> Result<PageEntry, Refusal>
+        ensures { result ≡ and_then (valid_page size bits) (λ h. Ok (record { size = size; bits = h })) }
+    {
+        let entry = PageEntry { size, bits };
+        if !entry.is_sound() {
+            return Err(Refusal::TranslationSpecification);
+        }
+        if entry.is_invalid() {
+            return Err(Refusal::PageTranslation);
+        }
+        Ok(entry)
     }
-}
 
-// A page entry that was read: its reserved bits are off, and it is valid.
-fn valid_page(size: PageSize, entry: u16) -> Result<u16, Refusal>
-    ensures { result ≡ valid_page size entry }
-{
-    if !sound_page(size, entry) {
-        return Err(Refusal::TranslationSpecification);
+    // Whether the reserved bits are off: bit 14, and with pages of 4,096 bytes bit 13 too.
+    fn is_sound(self) -> bool
+        ensures { result ≡ sound_page self.size self.bits }
+    {
+        match self.size {
+            PageSize::Bytes2048 => half_bits(self.bits, 14, 14) == 0,
+            PageSize::Bytes4096 => half_bits(self.bits, 14, 14) == 0
+                && half_bits(self.bits, 13, 13) == 0,
+        }
     }
-    if invalid_bit(size, entry) != 0 {
-        return Err(Refusal::PageTranslation);
-    }
-    Ok(entry)
-}
 
-// The page entry of a page, in the table that a segment entry names.
-fn page_entry(storage: &[u8], sizes: Sizes, entry: u32, page: u32) -> Result<u16, Refusal>
-    requires { page < 512 }
-    ensures { result ≡ page_entry storage.now sizes entry page }
-{
-    let pages = sizes.segment.bytes() / sizes.page.bytes();
-    if page * 16 / pages > word_bits(entry, 0, 3) {
-        return Err(Refusal::PageTranslation);
+    // Whether the invalid bit is on.
+    fn is_invalid(self) -> bool
+        ensures { IsTrue result ↔ (invalid self.size self.bits ≢ 0) }
+    {
+        match self.size {
+            PageSize::Bytes2048 => half_bits(self.bits, 13, 13) != 0,
+            PageSize::Bytes4096 => half_bits(self.bits, 12, 12) != 0,
+        }
     }
-    let place = 8 * word_bits(entry, 8, 28) + 2 * page;
-    match storage::half(storage, place as usize) {
-        Some(half) => valid_page(sizes.page, half),
-        None => Err(Refusal::Addressing),
-    }
-}
 
-// Where the frame of a page starts.
-fn frame_start(
-    storage: &[u8],
-    controls: Controls,
-    sizes: Sizes,
-    segment: u32,
-    page: u32,
-) -> Result<usize, Refusal>
-    requires { (segment < 256) × (page < 512) }
-    ensures { result ≡ frame_start storage.now controls sizes segment page }
-{
-    let entry = segment_entry(storage, controls, segment)?;
-    let half = page_entry(storage, sizes, entry, page)?;
-    Ok(frame_field(sizes.page, half) as usize * sizes.page.bytes() as usize)
+    // The frame field: the bits left of the invalid bit.
+    fn frame_field(self) -> u32
+        ensures value { result ≡ frame_field self.size self.bits }
+        ensures small { result < 8192 }
+    {
+        match self.size {
+            PageSize::Bytes2048 => half_bits(self.bits, 0, 12),
+            PageSize::Bytes4096 => half_bits(self.bits, 0, 11),
+        }
+    }
+
+    // Where the frame of the page starts.
+    fn frame_start(self) -> usize
+        ensures { result ≡ frame_field self.size self.bits * page_bytes self.size }
+    {
+        self.frame_field() as usize * self.size.bytes() as usize
+    }
 }
 
 /// The last step: the byte of a frame has a real address where it is in main storage.
@@ -295,13 +321,13 @@ pub fn located(storage: &[u8], start: usize, byte: u32) -> Result<usize, Refusal
 }
 
 /// The walk: the real address of a virtual one, or the exception that the architecture gives it.
+#[tactic(auto, using(crate::proofs::Led::exact), unfolding(crate::specs::Walk::walk))]
 pub fn walk(storage: &[u8], controls: Controls, address: u32) -> Result<usize, Refusal>
     ensures answer { result ≡ walk storage.now controls address }
     ensures exact { Exact storage.now controls address }
 {
     let sizes = checked(controls, address)?;
-    let segment = sizes.segment_index(address);
-    let page = sizes.page_index(address);
-    let start = frame_start(storage, controls, sizes, segment, page)?;
-    located(storage, start, sizes.byte_index(address))
+    let segment = controls.segment_entry(storage, sizes.segment_index(address))?;
+    let page = segment.page_entry(storage, sizes, sizes.page_index(address))?;
+    located(storage, page.frame_start(), sizes.byte_index(address))
 }
