@@ -1,6 +1,5 @@
 -- After LoadControls or Purge, any list of calls on the same storage is answered as the walk alone answers it.
-use Rattle.std.proofs.Common.{◌≡◌, ℕ, ◌+◌, ◌<◌, ◌≤◌, true, List, [], ◌∷◌, ◌++◌, length, get_or, drop, Ok, Err, Result, sym, refl, ap, ◌∙◌, subst, inl, inr}
-use Rattle.std.proofs.lemmas.List.{append_assoc, append-nil, at_drop_all, at_drop_more}
+use Rattle.std.proofs.Common.{◌≡◌, ℕ, true, List, [], ◌∷◌, ◌++◌, Ok, Err, Result, sym, refl, ◌∙◌, inl, inr}
 use Rattle.tables.specs.declared.Controls.{Controls}
 use Rattle.tables.specs.declared.Refusal.{Refusal}
 use Rattle.tables.specs.declared.Sizes.{Sizes}
@@ -10,8 +9,7 @@ use Rattle.translation.specs.declared.runs.Ask.TheVariants.{Translate, Forget, C
 use Rattle.translation.specs.declared.runs.Start.{Start}
 use Rattle.translation.specs.declared.runs.Start.TheVariants.{Load, Purge}
 use Rattle.translation.specs.declared.runs.Told.{Told}
-use Rattle.translation.specs.declared.runs.Told.TheVariants.{Real, Forgotten, Held}
-use Rattle.translation.specs.Runs.{answers, last_of, left_by, started, told_by, walk_answers, words_of}
+use Rattle.translation.specs.Runs.{answers, last_of, started, walk_answers, words_of}
 use Rattle.translation.specs.Translator.{Agrees, Answer, Answers, Lawful, Rules}
 use Rattle.translation.specs.Walked.{agreed_by, by_agreed, walk_stops}
 
@@ -30,63 +28,40 @@ module _ {M : Type 0} (r : Rules M) (law : Lawful r) (s : List ℕ) (m : M) (g :
 
   pub translate_coherent : (a : ℕ) → Coherent r s (r.translate m s a).left
   translate_coherent a page start h =
-      subst (λ (w : Controls). Agrees s w page start) (sym (law.translate_controls m s a g))
+      rw (law.translate_controls m s a g)
       (elim (law.translate_pairs m s a page start g h) [
         | inl k ↦ agree page start k
-        | inr j ↦ subst (λ p. Agrees s (r.controls m) p start) (sym j.page_is)
-            (agreed_by s (r.controls m) a start j.sizes j.passed (sym (as_walk a) ∙ j.answered))
+        | inr j ↦ rw (j.page_is) (agreed_by s (r.controls m) a start j.sizes j.passed (sym (as_walk a) ∙ j.answered))
       ])
 
   pub forget_coherent : (gone : ℕ) → Coherent r s (r.forget m gone)
   forget_coherent gone page start h =
-      subst (λ (w : Controls). Agrees s w page start) (sym (law.forget_controls m gone g)) (agree page start (law.forget_adds_none m gone page start g h))
+      rw (law.forget_controls m gone g) (agree page start (law.forget_adds_none m gone page start g h))
 
 pub walked : {M : Type 0} (r : Rules M) → Lawful r → (s : List ℕ) (w : Controls) (m : M) → r.good m → r.controls m ≡ w → Coherent r s m
     → (asks : List Ask) → answers r s m asks ≡ walk_answers s w asks
 walked r law s w m g c agree [] = refl
 walked r law s w m g c agree (Translate a ∷ asks) =
-    ap (λ x. Real x ∷ answers r s (r.translate m s a).left asks) (as_walk r law s m g agree a ∙ ap (λ (v : Controls). walk s v a) c)
-    ∙ ap (λ l. Real (walk s w a) ∷ l)
-    (walked r law s w (r.translate m s a).left (law.translate_good m s a g) (law.translate_controls m s a g ∙ c) (translate_coherent r law s m g agree a) asks)
+    rw (
+      as_walk r law s m g agree a,
+      c,
+      walked r law s w (r.translate m s a).left (law.translate_good m s a g) (law.translate_controls m s a g ∙ c) (translate_coherent r law s m g agree a) asks,
+    )
 walked r law s w m g c agree (Forget page ∷ asks) =
-    ap (λ l. Forgotten ∷ l)
-    (walked r law s w (r.forget m page) (law.forget_good m page g) (law.forget_controls m page g ∙ c) (forget_coherent r law s m g agree page) asks)
-walked r law s w m g c agree (Words ∷ asks) =
-    ap (λ (v : Controls). Held v ∷ answers r s m asks) c ∙ ap (λ l. Held w ∷ l) (walked r law s w m g c agree asks)
+    rw (walked r law s w (r.forget m page) (law.forget_good m page g) (law.forget_controls m page g ∙ c) (forget_coherent r law s m g agree page) asks)
+walked r law s w m g c agree (Words ∷ asks) = rw (c, walked r law s w m g c agree asks)
 
 -- The start of a run.
 pub run_walked : {M : Type 0} (r : Rules M) → Lawful r → (s : List ℕ) (m : M) → r.good m → (start : Start) (asks : List Ask)
     → answers r s (started r s m start) asks ≡ walk_answers s (words_of (r.controls m) start) asks
 run_walked r law s m g (Load w) asks =
     walked r law s w (r.load m s w) (law.load_good m s w g) (law.load_controls m s w g)
-    (λ page start h. subst (λ (v : Controls). Agrees s v page start) (sym (law.load_controls m s w g)) (law.load_agrees m s w page start g h)) asks
+    (λ page start h. rw (law.load_controls m s w g) (law.load_agrees m s w page start g h)) asks
 run_walked r law s m g Purge asks =
     walked r law s (r.controls m) (r.purge m s) (law.purge_good m s g) (law.purge_controls m s g)
-    (λ page start h. subst (λ (v : Controls). Agrees s v page start) (sym (law.purge_controls m s g)) (law.purge_agrees m s page start g h)) asks
+    (λ page start h. rw (law.purge_controls m s g) (law.purge_agrees m s page start g h)) asks
 
 -- What is done and what is left of a list of calls make the whole.
-pub record Left {M : Type 0} (r : Rules M) (s : List ℕ) (rest all : List Ask) (now before : M) (done old : List Told) : Type 0 where
-  pub told : done ++ answers r s now rest ≡ old ++ answers r s before all
+pub record Left {M : Type 0} (r : Rules M) (s : List ℕ) (rest all : List Ask) (now before : M) (done : List Told) : Type 0 where
+  pub told : done ++ answers r s now rest ≡ answers r s before all
   pub last : last_of r s now rest ≡ last_of r s before all
-
-module _ {M : Type 0} (r : Rules M) (s : List ℕ) where
-  pub one_more : (asks : List Ask) (i : ℕ) (d : Ask) (now next before : M) (one : Told) (done more old : List Told) → i < length asks
-      → one ≡ told_by r s now (get_or asks i d) → next ≡ left_by r s now (get_or asks i d) → more ≡ done ++ (one ∷ [])
-      → Left r s (drop i asks) asks now before done old → Left r s (drop (i + 1) asks) asks next before more old
-  one_more asks i d now next before one done more old h t l grown k =
-      let first : answers r s now (drop i asks) ≡ one ∷ answers r s next (drop (i + 1) asks) =
-      at_drop_more (λ q. answers r s now q) asks i d h ∙ ap (λ x. x ∷ answers r s (left_by r s now (get_or asks i d)) (drop (i + 1) asks)) (sym t)
-      ∙ ap (λ n. one ∷ answers r s n (drop (i + 1) asks)) (sym l) in
-      let end : last_of r s now (drop i asks) ≡ last_of r s next (drop (i + 1) asks) =
-      at_drop_more (λ q. last_of r s now q) asks i d h ∙ ap (λ n. last_of r s n (drop (i + 1) asks)) (sym l) in
-      record {
-        told = ap (λ q. q ++ answers r s next (drop (i + 1) asks)) grown ∙ append_assoc done (one ∷ []) (answers r s next (drop (i + 1) asks)) ∙ ap (λ q. done ++ q) (sym first) ∙ k.told;
-        last = sym end ∙ k.last;
-      }
-
-  pub all_told : (asks : List Ask) (i : ℕ) (now before : M) (done old : List Told) → length asks ≤ i → Left r s (drop i asks) asks now before done old
-      → (done ≡ old ++ answers r s before asks) × (now ≡ last_of r s before asks)
-  all_told asks i now before done old h k = (
-    sym (append-nil done) ∙ ap (λ q. done ++ q) (sym (at_drop_all (λ q. answers r s now q) asks i h)) ∙ k.told,
-    sym (at_drop_all (λ q. last_of r s now q) asks i h) ∙ k.last,
-  )

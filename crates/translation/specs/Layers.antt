@@ -1,5 +1,5 @@
 -- The walker, which never has a pair, and the TLB, a layer of eight pairs over any translator.
-use Rattle.std.specs.Prelude.{ℕ, ◌-◌, ◌≤◌, Bool, false, cond, ◌&&◌, ◌||◌, List, [], ◌∷◌, length, take, Some, None, Ok, Err, Option, Result, ◌==◌, slice_index_or}
+use Rattle.std.specs.Prelude.{ℕ, ◌-◌, ◌≤◌, Bool, false, cond, ◌&&◌, ◌||◌, List, [], ◌∷◌, length, Some, None, Ok, Err, Option, Result, ◌==◌, slice_index_or}
 use Rattle.recency.specs.Places.{at_end, place_of, put_last}
 use Rattle.tables.specs.declared.Controls.{Controls}
 use Rattle.tables.specs.declared.Refusal.{Refusal}
@@ -32,10 +32,6 @@ without page (p ∷ ps) = cond (p.page == page) (without page ps) (p ∷ without
 
 abbrev pub pair_of : ℕ → ℕ → Pair
 pair_of page start = record { page = page; start = start }
-
--- The pairs held: the first ones of the array.
-abbrev pub pairs_in : ℕ → List Pair → List Pair
-pairs_in held pairs = take held pairs
 
 abbrev pub page_of : Pair → ℕ
 page_of p = p.page

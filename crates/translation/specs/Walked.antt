@@ -1,6 +1,6 @@
 -- The walk by pages: all bytes of a page are in one frame. And the walker is a translator.
-use Rattle.std.specs.Prelude.{◌≡◌, ℕ, ◌+◌, ◌*◌, ◌≤◌, true, false, List, Some, Ok, Err, Result, refl}
-use Rattle.std.proofs.Common.{sym, ap, subst, ◌∙◌, inr, arith}
+use Rattle.std.specs.Prelude.{◌≡◌, ℕ, ◌+◌, ◌*◌, ◌<◌, ◌≤◌, List, length, Ok, Err, Result, refl}
+use Rattle.std.proofs.Common.{sym, ap, ◌∙◌, inr, arith}
 use Rattle.tables.specs.declared.Controls.{Controls}
 use Rattle.tables.specs.declared.PageSize.{PageSize}
 use Rattle.tables.specs.declared.PageSize.TheVariants.{Bytes2048, Bytes4096}
@@ -9,7 +9,7 @@ use Rattle.tables.specs.declared.SegmentSize.{SegmentSize}
 use Rattle.tables.specs.declared.SegmentSize.TheVariants.{Bytes65536, Bytes1048576}
 use Rattle.tables.specs.declared.Sizes.{Sizes}
 use Rattle.tables.specs.Walk.{and_then, byte_index, checked, frame_start, located, page_bytes, page_index, page_number, segment_index, walk}
-use Rattle.tables.proofs.Led.{chain_ok, chain_of, checked_ok, checked_of, located_ok, located_at}
+use Rattle.tables.proofs.Led.{chain_ok, checked_ok, checked_of, located_ok, located_at}
 use Rattle.translation.specs.Layers.{walker_rules}
 use Rattle.translation.specs.Translator.{Agrees, Answers, Lawful}
 
@@ -17,14 +17,12 @@ use Rattle.translation.specs.Translator.{Agrees, Answers, Lawful}
 pub walk_of : (s : List ℕ) (w : Controls) (a : ℕ) (z : Sizes) → checked w a ≡ Ok z
     → walk s w a ≡ and_then (frame_start s w z (segment_index z a) (page_index z a)) (λ start. located s start (byte_index z a))
 unfolding walk
-walk_of s w a z e =
-    chain_of (checked w a) (λ z. and_then (frame_start s w z (segment_index z a) (page_index z a)) (λ start. located s start (byte_index z a))) z e
+walk_of s w a z e = rw e
 
 -- A walk refused in its first two steps.
 pub walk_stops : (s : List ℕ) (w : Controls) (a : ℕ) (why : Refusal) → checked w a ≡ Err why → walk s w a ≡ Err why
 unfolding walk
-walk_stops s w a why e =
-    ap (λ r. and_then r (λ z. and_then (frame_start s w z (segment_index z a) (page_index z a)) (λ start. located s start (byte_index z a)))) e
+walk_stops s w a why e = rw e
 
 -- The first byte of an address's page.
 record FirstByte (z : Sizes) (a : ℕ) : Type 0 where
@@ -48,30 +46,20 @@ first_walk s w a z e =
     let k = checked_ok w a z e in
     let l = f.below in
     let h = k.0 in
-    walk_of s w (page_number z a * page_bytes z.page) z (checked_of w (page_number z a * page_bytes z.page) z (omega arith) k.1)
-    ∙ ap (λ n. and_then (frame_start s w z n (page_index z (page_number z a * page_bytes z.page))) (λ start. located s start (byte_index z (page_number z a * page_bytes z.page)))) f.segment_same
-    ∙ ap (λ n. and_then (frame_start s w z (segment_index z a) n) (λ start. located s start (byte_index z (page_number z a * page_bytes z.page)))) f.page_same
-    ∙ ap (λ n. and_then (frame_start s w z (segment_index z a) (page_index z a)) (λ start. located s start n)) f.byte_none
-
--- Where the frame of a page starts is where its first byte stands, if that is in storage.
-started_at : (s : List ℕ) (start real : ℕ) → located s start 0 ≡ Ok real → start ≡ real
-started_at s start real e = let l = located_ok s start 0 real e in omega (arith, l.0)
+    rw (walk_of s w (page_number z a * page_bytes z.page) z (checked_of w (page_number z a * page_bytes z.page) z (omega arith) k.1), f.segment_same, f.page_same, f.byte_none)
 
 -- By a frame start that agrees with the walk every byte of the page is answered as the walk answers it.
 pub by_agreed : (s : List ℕ) (w : Controls) (a start : ℕ) (z : Sizes) → checked w a ≡ Ok z → Agrees s w (page_number z a) start
     → walk s w a ≡ located s start (byte_index z a)
 by_agreed s w a start z e g =
     let k = checked_ok w a z e in
-    let n = g.named in
-    let q = k.1 in
-    let same : Some g.sizes ≡ Some z = sym n ∙ q in
+    let named = g.named in
     let zs : g.sizes ≡ z = cc in
-    let walked : walk s w (page_number z a * page_bytes z.page) ≡ Ok start =
-    subst (λ (y : Sizes). walk s w (page_number z a * page_bytes y.page) ≡ Ok start) zs g.walked in
+    let walked = rw zs at g.walked in
     let c = chain_ok (frame_start s w z (segment_index z a) (page_index z a)) (λ st. located s st 0) start (sym (first_walk s w a z e) ∙ walked) in
-    walk_of s w a z e
-    ∙ ap (λ r. and_then r (λ st. located s st (byte_index z a))) c.1
-    ∙ ap (λ st. located s st (byte_index z a)) (started_at s c.0 start c.2)
+    let l = located_ok s c.0 0 start c.2 in
+    let same : c.0 ≡ start = omega arith in
+    rw (walk_of s w a z e, c.1, same)
 
 -- An answer of the walk gives a pair that agrees with it.
 pub agreed_by : (s : List ℕ) (w : Controls) (a start : ℕ) (z : Sizes) → checked w a ≡ Ok z → walk s w a ≡ Ok (start + byte_index z a)
@@ -80,40 +68,28 @@ agreed_by s w a start z e h =
     let k = checked_ok w a z e in
     let c = chain_ok (frame_start s w z (segment_index z a) (page_index z a)) (λ st. located s st (byte_index z a)) (start + byte_index z a) (sym (walk_of s w a z e) ∙ h) in
     let l = located_ok s c.0 (byte_index z a) (start + byte_index z a) c.2 in
-    let l0 = l.0 in
-    let l1 = l.1 in
-    let st : c.0 ≡ start = omega arith in
-    record {
-      sizes = z;
-      named = k.1;
-      walked =
-          first_walk s w a z e
-          ∙ ap (λ r. and_then r (λ st. located s st 0)) c.1
-          ∙ located_at s c.0 0 (omega arith)
-          ∙ ap Ok (let q : c.0 + 0 ≡ start = omega arith in q);
-    }
+    let same : c.0 ≡ start = omega arith in
+    let stored : start + 0 < length s = omega arith in
+    record { sizes = z; named = k.1; walked = rw (first_walk s w a z e, c.1, same, located_at s start 0 stored) (ap Ok (omega arith)) }
 
 -- What the walker answers.
 walker_answers : (w : Controls) (s : List ℕ) (a : ℕ) (r : Result Sizes Refusal) → checked w a ≡ r → Answers walker_rules w s a r (walk s w a)
 walker_answers w s a (Ok z) e = inr (record { unknown = λ _. refl; answered = refl })
 walker_answers w s a (Err why) e = walk_stops s w a why e
 
-never : {A : Type 0} → false ≡ true → A
-never e = let z : ◌≡◌ {A = ℕ} 0 1 = cc in absurd (omega arith)
-
 pub walker_lawful : Lawful walker_rules
 walker_lawful = record {
   translate_good = λ m s a g. g;
   translate_controls = λ m s a g. refl;
   translate_answer = λ m s a g. walker_answers m s a (checked m a) refl;
-  translate_pairs = λ m s a page start g e. never e;
+  translate_pairs = λ m s a page start g e. absurd cc;
   translate_refused = λ m s a why g e page start. refl;
   load_good = λ m s w g. g;
   load_controls = λ m s w g. refl;
-  load_agrees = λ m s w page start g e. never e;
+  load_agrees = λ m s w page start g e. absurd cc;
   purge_good = λ m s g. g;
   purge_controls = λ m s g. refl;
-  purge_agrees = λ m s page start g e. never e;
+  purge_agrees = λ m s page start g e. absurd cc;
   forget_good = λ m page g. g;
   forget_controls = λ m page g. refl;
   forget_ends = λ m page start g. refl;

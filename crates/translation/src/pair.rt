@@ -4,7 +4,7 @@ ghost use Rattle.std.specs.Prelude.{ℕ};
 use recency::Keyed;
 
 /// A page, counted in pages of the size that control word 0 names, and the real address of its first byte.
-#[derive(Clone, Copy, PartialEq, Eq)]
+#[derive(Clone, Copy, Debug, PartialEq, Eq)]
 pub struct Pair {
     pub page: u32,
     pub start: usize,

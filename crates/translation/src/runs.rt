@@ -1,13 +1,13 @@
 //! Runs of calls on one main storage: lookaside registers cannot be told from none.
-ghost use Rattle.std.specs.Prelude.{◌≡◌, List, ◌++◌, IfOk, OnOk};
-ghost use Rattle.translation.specs.Runs.{answers, last_of, left_by, started, told_by, walk_answers, words_of};
+ghost use Rattle.std.specs.Prelude.{◌≡◌, List, IfOk, OnOk};
+ghost use Rattle.translation.specs.Runs.{last_of, left_by, started, told_by, walk_answers, words_of};
 
 use crate::translator::Translator;
 use std::alloc::{AllocError, Global};
 use tables::{Controls, Refusal};
 
 /// A call of a run.
-#[derive(Clone, Copy)]
+#[derive(Clone, Copy, Debug, PartialEq, Eq)]
 pub enum Ask {
     Translate(u32),
     Forget(u32),
@@ -15,14 +15,14 @@ pub enum Ask {
 }
 
 /// How a run starts.
-#[derive(Clone, Copy)]
+#[derive(Clone, Copy, Debug, PartialEq, Eq)]
 pub enum Start {
     Load(Controls),
     Purge,
 }
 
 /// What a call of a run answers.
-#[derive(Clone, Copy)]
+#[derive(Clone, Copy, Debug, PartialEq, Eq)]
 pub enum Told {
     Real(Result<usize, Refusal>),
     Forgotten,
@@ -54,23 +54,6 @@ fn start_run<T: Translator>(translator: &mut T, storage: &[u8], start: Start)
     }
 }
 
-// All calls of a list, their answers put behind those that are there.
-fn answer_each<T: Translator>(
-    translator: &mut T,
-    storage: &[u8],
-    asks: &[Ask],
-    told: &mut Vec<Told>,
-) -> Result<(), AllocError>
-    ensures told { OnOk result (told.new.items ≡ told.old.items ++ answers T.Translator.rules storage.now (T.Translator.model translator.old) asks.now) }
-    ensures after { OnOk result (T.Translator.model translator.new ≡ last_of T.Translator.rules storage.now (T.Translator.model translator.old) asks.now) }
-{
-    for ask in asks {
-        let one = answer(translator, storage, *ask);
-        told.push(one)?;
-    }
-    Ok(())
-}
-
 /// Loads the control words or purges, and then works a list of calls on the same storage. Whatever translator it is, in
 /// however many layers, the answers are those of the walk alone.
 pub fn answer_all<T: Translator>(
@@ -85,6 +68,10 @@ pub fn answer_all<T: Translator>(
 {
     start_run(translator, storage, start);
     let mut told = Vec::new(heap);
-    answer_each(translator, storage, asks, &mut told)?;
+    // Not `map` and `collect`: what `collect` ensures leaves open what its closure has made of the translator.
+    for ask in asks {
+        let one = answer(translator, storage, *ask);
+        told.push(one)?;
+    }
     Ok(told)
 }

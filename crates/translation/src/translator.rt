@@ -4,6 +4,7 @@ ghost use Rattle.translation.specs.Translator.{Lawful, Rules};
 
 use tables::{Controls, Refusal};
 
+/// What turns virtual addresses into real ones.
 pub trait Translator {
     // what a translator of this kind is, and the value of one
     ghost Model: { Type 0 };

@@ -8,7 +8,8 @@ ghost use Rattle.std.proofs.Common.{rules};
 use crate::translator::Translator;
 use tables::{Controls, Refusal, walk};
 
-#[derive(Clone, Copy)]
+/// Both control words, and nothing else.
+#[derive(Clone, Copy, Debug, Default, PartialEq, Eq)]
 pub struct Walker {
     controls: Controls,
 }
@@ -18,9 +19,7 @@ impl Walker {
     pub fn new() -> Walker
         ensures { result.controls ≡ record { cr0 = 0; cr1 = 0 } }
     {
-        Walker {
-            controls: Controls { cr0: 0, cr1: 0 },
-        }
+        Walker::default()
     }
 }
 

@@ -2,7 +2,7 @@
 //! layers beside the walker on one list of calls.
 use std::process::Abort;
 use std::test::Fail;
-use storage::{put_half, put_word};
+use storage::Number;
 use tables::{Controls, Refusal};
 use translation::{Ask, Start, Tlb, Told, Translator, Walker, answer_all};
 
@@ -17,18 +17,32 @@ const WORDS: Controls = Controls {
 
 // Page p is in frame p + 3, for the pages 0 to 8.
 fn tables_in(bytes: &mut [u8]) {
-    put_word(bytes, 1024, 0xF000_0800);
+    0xF000_0800u32.write(bytes, 1024);
     for page in 0u8..9 {
         let entry = 8 * (u16::from(page) + 3);
-        put_half(bytes, 2048 + 2 * usize::from(page), entry);
+        entry.write(bytes, 2048 + 2 * usize::from(page));
     }
 }
 
 // The same tables with every page entry invalid.
 fn spoil(bytes: &mut [u8]) {
     for page in 0u8..9 {
-        put_half(bytes, 2048 + 2 * usize::from(page), 4);
+        4u16.write(bytes, 2048 + 2 * usize::from(page));
     }
+}
+
+// Main storage with the tables.
+fn with_tables() -> [u8; BYTES] {
+    let mut bytes = [0u8; BYTES];
+    tables_in(&mut bytes);
+    bytes
+}
+
+// The same with every page entry invalid.
+fn with_none_valid() -> [u8; BYTES] {
+    let mut bytes = with_tables();
+    spoil(&mut bytes);
+    bytes
 }
 
 // Byte 1 of a page.
@@ -36,13 +50,28 @@ fn ask<T: Translator>(translator: &mut T, bytes: &[u8], page: u8) -> Result<usiz
     translator.translate(bytes, 2048 * u32::from(page) + 1)
 }
 
+// The same, where main storage is the first `length` bytes alone.
+fn ask_in_front<T: Translator>(
+    translator: &mut T,
+    bytes: &[u8],
+    length: usize,
+    page: u8,
+) -> Result<usize, Refusal> {
+    ask(translator, &bytes[..length.min(bytes.len())], page)
+}
+
+// Asks for a page, and sees that it is answered.
+fn answered<T: Translator>(rt: &impl Abort, translator: &mut T, bytes: &[u8], page: u8) {
+    assert_eq!(rt;
+        ask(translator, bytes, page),
+        Ok(2048 * (usize::from(page) + 3) + 1)
+    );
+}
+
 // Asks for the pages from `first` to before `end`, and sees that each is answered.
 fn fill<T: Translator>(rt: &impl Abort, translator: &mut T, bytes: &[u8], first: u8, end: u8) {
     for page in first..end {
-        assert_eq!(rt;
-            ask(translator, bytes, page),
-            Ok(2048 * (usize::from(page) + 3) + 1)
-        );
+        answered(rt, translator, bytes, page);
     }
 }
 
@@ -52,79 +81,67 @@ fn all_but<T: Translator>(rt: &impl Abort, translator: &mut T, bytes: &[u8], mis
         ask(translator, bytes, missing),
         Err(Refusal::PageTranslation)
     );
-    for page in 0u8..9 {
-        if page != missing {
-            assert_eq!(rt;
-                ask(translator, bytes, page),
-                Ok(2048 * (usize::from(page) + 3) + 1)
-            );
-        }
+    for page in (0u8..9).filter(|&page| page != missing) {
+        answered(rt, translator, bytes, page);
     }
 }
 
 // The ninth page takes the place of the first.
-fn ninth_page(rt: &impl Abort, bytes: &[u8], spoiled: &[u8]) {
+#[test]
+fn ninth_page(rt: HostRuntime) {
+    let bytes = with_tables();
+    let spoiled = with_none_valid();
     let mut tlb = Tlb::over(Walker::new());
-    tlb.load_controls(bytes, WORDS);
-    fill(rt, &mut tlb, bytes, 0, 9);
-    all_but(rt, &mut tlb, spoiled, 0);
+    tlb.load_controls(&bytes, WORDS);
+    fill(&rt, &mut tlb, &bytes, 0, 9);
+    all_but(&rt, &mut tlb, &spoiled, 0);
 }
 
 // A hit puts page 0 behind page 1; one whose byte is not in storage does not.
-fn hits(rt: &impl Abort, bytes: &[u8], spoiled: &[u8]) {
+#[test]
+fn hits(rt: HostRuntime) {
+    let bytes = with_tables();
+    let spoiled = with_none_valid();
     let mut tlb = Tlb::over(Walker::new());
-    tlb.load_controls(bytes, WORDS);
-    fill(rt, &mut tlb, bytes, 0, 8);
+    tlb.load_controls(&bytes, WORDS);
+    fill(&rt, &mut tlb, &bytes, 0, 8);
     assert!(rt; bytes.len() >= 6146);
-    assert_eq!(rt; ask(&mut tlb, &bytes[0..6146], 0), Ok(6145));
-    assert_eq!(rt; ask(&mut tlb, &bytes[0..6145], 1), Err(Refusal::Addressing));
-    fill(rt, &mut tlb, bytes, 8, 9);
-    all_but(rt, &mut tlb, spoiled, 1);
+    assert_eq!(rt; ask_in_front(&mut tlb, &bytes, 6146, 0), Ok(6145));
+    assert_eq!(rt;
+        ask_in_front(&mut tlb, &bytes, 6145, 1),
+        Err(Refusal::Addressing)
+    );
+    fill(&rt, &mut tlb, &bytes, 8, 9);
+    all_but(&rt, &mut tlb, &spoiled, 1);
 }
 
 // Forget ends a page in both layers.
-fn forgets(rt: &impl Abort, bytes: &[u8], spoiled: &[u8]) {
+#[test]
+fn forgets(rt: HostRuntime) {
+    let bytes = with_tables();
+    let spoiled = with_none_valid();
     let mut tlb = Tlb::over(Tlb::over(Walker::new()));
-    tlb.load_controls(bytes, WORDS);
-    fill(rt, &mut tlb, bytes, 1, 9);
+    tlb.load_controls(&bytes, WORDS);
+    fill(&rt, &mut tlb, &bytes, 1, 9);
     tlb.forget(3);
-    fill(rt, &mut tlb, bytes, 0, 1);
-    all_but(rt, &mut tlb, spoiled, 3);
+    fill(&rt, &mut tlb, &bytes, 0, 1);
+    all_but(&rt, &mut tlb, &spoiled, 3);
 }
 
 // Purge and LoadControls empty both layers.
-fn empties(rt: &impl Abort, bytes: &[u8], spoiled: &[u8]) {
-    let mut tlb = Tlb::over(Tlb::over(Walker::new()));
-    tlb.load_controls(bytes, WORDS);
-    fill(rt, &mut tlb, bytes, 8, 9);
-    tlb.purge(spoiled);
-    assert_eq!(rt; ask(&mut tlb, spoiled, 8), Err(Refusal::PageTranslation));
-    fill(rt, &mut tlb, bytes, 8, 9);
-    tlb.load_controls(spoiled, WORDS);
-    assert_eq!(rt; ask(&mut tlb, spoiled, 8), Err(Refusal::PageTranslation));
-    assert!(rt; tlb.controls() == WORDS);
-}
-
 #[test]
-fn pairs(rt: HostRuntime) {
-    let mut bytes = [0u8; BYTES];
-    tables_in(&mut bytes);
-    let mut spoiled = [0u8; BYTES];
-    tables_in(&mut spoiled);
-    spoil(&mut spoiled);
-    ninth_page(&rt, &bytes, &spoiled);
-    hits(&rt, &bytes, &spoiled);
-    forgets(&rt, &bytes, &spoiled);
-    empties(&rt, &bytes, &spoiled);
-}
-
-fn same(a: Told, b: Told) -> bool {
-    match (a, b) {
-        (Told::Real(x), Told::Real(y)) => x == y,
-        (Told::Forgotten, Told::Forgotten) => true,
-        (Told::Held(x), Told::Held(y)) => x == y,
-        _ => false,
-    }
+fn empties(rt: HostRuntime) {
+    let bytes = with_tables();
+    let spoiled = with_none_valid();
+    let mut tlb = Tlb::over(Tlb::over(Walker::new()));
+    tlb.load_controls(&bytes, WORDS);
+    fill(&rt, &mut tlb, &bytes, 8, 9);
+    tlb.purge(&spoiled);
+    assert_eq!(rt; ask(&mut tlb, &spoiled, 8), Err(Refusal::PageTranslation));
+    fill(&rt, &mut tlb, &bytes, 8, 9);
+    tlb.load_controls(&spoiled, WORDS);
+    assert_eq!(rt; ask(&mut tlb, &spoiled, 8), Err(Refusal::PageTranslation));
+    assert_eq!(rt; tlb.controls(), WORDS);
 }
 
 const ASKS: [Ask; 14] = [
@@ -161,22 +178,14 @@ const TOLD: [Told; 14] = [
     Told::Real(Ok(10_242)),
 ];
 
-fn told_as_expected(rt: &impl Abort, told: &Vec<Told>) {
-    assert!(rt; told.len() == TOLD.len());
-    for (answer, expected) in told.iter().zip(TOLD.iter()) {
-        assert!(rt; same(*answer, *expected));
-    }
-}
-
 #[test]
 fn layers_answer_as_the_walker(rt: HostRuntime) -> Result<(), Fail> {
-    let mut bytes = [0u8; BYTES];
-    tables_in(&mut bytes);
+    let bytes = with_tables();
     let mut walker = Walker::new();
     let told = answer_all(rt.alloc(), &mut walker, &bytes, Start::Load(WORDS), &ASKS)?;
-    told_as_expected(&rt, &told);
+    assert_eq!(rt; told.as_slice(), TOLD.as_slice());
     let mut layers = Tlb::over(Tlb::over(Walker::new()));
     let told = answer_all(rt.alloc(), &mut layers, &bytes, Start::Load(WORDS), &ASKS)?;
-    told_as_expected(&rt, &told);
+    assert_eq!(rt; told.as_slice(), TOLD.as_slice());
     Ok(())
 }

@@ -1,6 +1,6 @@
 //! The walk, step by step. A case puts one segment entry and one page entry into a storage of zeros and hands the front of
 //! it to the walk. A table has a row for each case, with what the walk answers last.
-use storage::{put_half, put_word};
+use storage::Number;
 use tables::{Controls, Refusal, walk};
 
 const BYTES: usize = 8192;
@@ -56,13 +56,13 @@ const PLAIN: Case = Case {
 
 fn walked(case: Case) -> Answer {
     let mut bytes = [0u8; BYTES];
-    put_word(&mut bytes, case.segment_at, case.segment);
-    put_half(&mut bytes, case.page_at, case.page);
+    case.segment.write(&mut bytes, case.segment_at);
+    case.page.write(&mut bytes, case.page_at);
     let controls = Controls {
         cr0: case.cr0,
         cr1: case.cr1,
     };
-    walk(&bytes[0..case.length.min(BYTES)], controls, case.address)
+    walk(&bytes[..case.length.min(BYTES)], controls, case.address)
 }
 
 // Segment 1, page 3, byte 5. The entry X'0010' is frame 2 of 2,048 bytes and frame 1 of 4,096: the answer is 4,101.

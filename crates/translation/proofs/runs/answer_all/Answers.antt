@@ -1,20 +1,14 @@
-use Rattle.std.proofs.Common.{◌++◌, ap, ◌∙◌}
-use Rattle.translation.specs.Runs.{answers, last_of}
+use Rattle.std.proofs.Common.{◌≡◌, ap, ◌∙◌, vec_items, arith}
+use Rattle.std.proofs.lemmas.Grind.{common_steps}
+use Rattle.translation.specs.Runs.{answers}
 use Rattle.translation.proofs.Coherent.{run_walked}
 use Rattle.translation.proofs.runs.answer_all.Goals as goal
 
-pub returns : goal.returns
-returns g c =
+pub returns-clause-walked : goal.returns-clause-walked
+returns-clause-walked g c =
     let r = g.T.Translator.rules in
     let s = c.args.storage.now in
     let m = g.T.Translator.model c.args.translator.now in
-    let asks = c.args.asks.now in
-    let told = c.in_ok-answer_each.ensures.told in
-    let after = c.in_ok-answer_each.ensures.after in
-    let begun = c.start_run.ensures in
-    let fresh = c.new-told.ensures.items in
-    record {
-      walked = told ∙ ap (λ l. l ++ answers r s (g.T.Translator.model c.start_run.new.translator) asks) fresh ∙ ap (λ n. answers r s n asks) begun
-          ∙ run_walked r g.met.T.Translator.lawful s m (g.met.T.Translator.valid c.args.translator.now) c.args.start asks;
-      after = after ∙ ap (λ n. last_of r s n asks) begun;
-    }
+    let told : vec_items c.loop-ask.told ≡ answers r s (g.T.Translator.model c.start_run.new.translator) c.args.asks.now = grind (arith, common_steps) in
+    told ∙ ap (λ n. answers r s n c.args.asks.now) c.start_run.ensures
+    ∙ run_walked r g.met.T.Translator.lawful s m (g.met.T.Translator.valid c.args.translator.now) c.args.start c.args.asks.now
