@@ -9,7 +9,7 @@ use Rattle.std.proofs.lemmas.Bool.{cases_eq, cases_lt, eq-eqb, ne_eqb}
 use Rattle.pages.specs.Store.{Lawful, Usable}
 use Rattle.storage.specs.Bytes.{page, put_page}
 use Rattle.storage.specs.Laws.{Within}
-use Rattle.storage.proofs.Over.{laws, elsewhere}
+use Rattle.storage.specs.Over.{laws, elsewhere}
 use Rattle.storage.proofs.Parted.{put_mid_lem, part}
 use Rattle.area.specs.Plain.{slots_of, plain_rules, Touched}
 

@@ -2,14 +2,16 @@
 //! slot 8,191, belong to no slot and are never altered.
 #![tactic(auto)]
 
-ghost use Rattle.std.specs.Prelude.{◌≡◌, ℕ, ◌*◌, List};
+ghost use Rattle.std.specs.Prelude.{◌≡◌, ℕ, ◌*◌, List, Vec};
+ghost use Rattle.std.specs.declared.alloc.Global.{Global};
 ghost use Rattle.pages.specs.Store.{refusal_at, told};
-ghost use Rattle.area.specs.Plain.{PlainLaws, plain_fault, plain_rules};
+ghost use Rattle.area.specs.Plain.{PlainLaws, plain_rules};
 ghost use Rattle.area.specs.Slots.{plain_lawful};
 ghost use Rattle.std.proofs.Common.{rules};
 
 use pages::fault::{Fault, StoreRefusal};
 use pages::store::{MOST_SLOTS, PageStore};
+use std::marker::Model;
 use storage::PAGE;
 
 /// The area, as it was handed in and then written to.
@@ -18,38 +20,44 @@ pub struct PlainArea {
     area: Vec<u8>,
 }
 
+/// Contracts see the area itself.
+impl Model for PlainArea {
+    ghost Value = { Vec ℕ Global };
+
+    ghost view = { λ s. s.area };
+}
+
 impl PlainArea {
     /// A store over these bytes.
     pub fn new(area: Vec<u8>) -> PlainArea
-        ensures { result.area ≡ area }
+        ensures { result ≡ area }
     {
         PlainArea { area }
     }
 
     /// The bytes, to be saved.
     pub fn area(&self) -> &[u8]
-        ensures { result.now ≡ self.now.area.items }
+        ensures { result.now ≡ self.now.items }
     {
-        self.area.as_slice()
+        &self.area
     }
 
     /// The area itself, taken out again.
     pub fn into_area(self) -> Vec<u8>
-        ensures { result ≡ self.area }
+        ensures { result ≡ self }
     {
-        let PlainArea { area } = self;
-        area
+        self.area
     }
 
     /// The first refusal that holds for a slot and a buffer of so many bytes.
     fn check(&self, slot: u32, length: usize) -> Result<(), Fault>
-        ensures { result ≡ told plain_rules self.now.area.items slot (refusal_at plain_rules self.now.area.items slot length) }
+        ensures { result ≡ told plain_rules self.now.items slot (refusal_at plain_rules self.now.items slot length) }
     {
         if length != PAGE {
-            return Err(refused(StoreRefusal::WrongLength, slot));
+            return Err(Fault::new(StoreRefusal::WrongLength, Self::KIND, slot));
         }
         if slot >= self.count() {
-            return Err(refused(StoreRefusal::NoSuchSlot, slot));
+            return Err(Fault::new(StoreRefusal::NoSuchSlot, Self::KIND, slot));
         }
         Ok(())
     }
@@ -62,36 +70,20 @@ fn place(slot: u32) -> usize
     PAGE * slot as usize
 }
 
-/// A fault of this kind of store.
-fn refused(refusal: StoreRefusal, slot: u32) -> Fault
-    ensures { result ≡ plain_fault refusal slot }
-{
-    Fault {
-        refusal,
-        kind: <PlainArea as PageStore>::KIND,
-        slot,
-        cause: None,
-    }
-}
-
 impl PageStore for PlainArea {
     const KIND: u8 = 1;
 
+    ghost KIND = { 1 };
+
     ghost Model = { List ℕ };
 
-    ghost model = { λ s. s.area.items };
+    ghost model = { λ s. s.items };
 
     ghost rules = { plain_rules };
-
-    ghost number = { 1 };
 
     ghost lawful = { plain_lawful };
 
     ghost valid = { Prim.search rules };
-
-    fn kind_number() -> u8 {
-        Self::KIND
-    }
 
     fn count(&self) -> u32 {
         (self.area.len() / PAGE).min(MOST_SLOTS as usize) as u32
@@ -111,8 +103,7 @@ impl PageStore for PlainArea {
     fn write(&mut self, slot: u32, page: &[u8]) -> Result<(), Fault> {
         self.check(slot, page.len())?;
         let at = place(slot);
-        let part = &mut self.area[at..at + PAGE];
-        part.copy_from_slice(page);
+        self.area[at..at + PAGE].copy_from_slice(page);
         Ok(())
     }
 }
@@ -154,18 +145,21 @@ mod tests {
         let mut store = PlainArea::new(vec![in rt.alloc(); 7u8; 4100]?);
         let mut long = [1u8; 2049];
         assert_eq!(rt; store.good(1), Ok(()));
-        assert_eq!(rt; store.good(2), Err(refused(StoreRefusal::NoSuchSlot, 2)));
+        assert_eq!(rt;
+            store.good(2),
+            Err(Fault::new(StoreRefusal::NoSuchSlot, PlainArea::KIND, 2))
+        );
         assert_eq!(rt;
             store.read(2, &mut long),
-            Err(refused(StoreRefusal::WrongLength, 2))
+            Err(Fault::new(StoreRefusal::WrongLength, PlainArea::KIND, 2))
         );
         assert_eq!(rt;
             store.read(2, &mut long[0..2048]),
-            Err(refused(StoreRefusal::NoSuchSlot, 2))
+            Err(Fault::new(StoreRefusal::NoSuchSlot, PlainArea::KIND, 2))
         );
         assert_eq!(rt;
             store.write(1, &long[0..2047]),
-            Err(refused(StoreRefusal::WrongLength, 1))
+            Err(Fault::new(StoreRefusal::WrongLength, PlainArea::KIND, 1))
         );
         assert_eq!(rt; long[0], 1);
         Ok(())

@@ -3,10 +3,10 @@ use Rattle.std.proofs.Common.{◌≡◌, ℕ, ◌+◌, ◌*◌, ◌<◌, ◌≤�
 use Rattle.std.specs.Vec.{with_items}
 use Rattle.std.specs.declared.alloc.Global.{Global}
 use Rattle.std.proofs.lemmas.List.{length-replicate, get_or-replicate, with_items_is}
-use Rattle.std.proofs.lemmas.Bool.{lt-ltb, le-leb}
-use Rattle.storage.specs.Bytes.{fits, word, put_word, page, zeros}
+use Rattle.std.proofs.lemmas.Bool.{lt-ltb}
+use Rattle.storage.specs.Bytes.{word, put_word, page, zeros}
 use Rattle.storage.specs.Laws.{Within}
-use Rattle.storage.proofs.Over.{laws, elsewhere}
+use Rattle.storage.specs.Over.{laws, elsewhere}
 use Rattle.dataset.specs.Format.{Formed, mark_of, slots_of, slots_in, place_of, blank_set, Blank}
 use Rattle.dataset.specs.Formed.{formed_opened}
 
@@ -70,26 +70,16 @@ blank_set_lem n few =
     blank_both n (replicate (8 + n + 2048 * n) 0) (put_word (replicate (8 + n + 2048 * n) 0) 0 n)
     (put_word (put_word (replicate (8 + n + 2048 * n) 0) 0 n) 4 2048) refl refl refl few
 
--- A number that fits is put.
-put : (d s : List ℕ) (at v : ℕ) → at + 4 ≤ length d → s ≡ cond (fits 4 d at) (put_word d at v) d → s ≡ put_word d at v
-put d s at v h e = e ∙ ap (λ t. cond t (put_word d at v) d) (le-leb (at + 4) (length d) h)
-
 -- What the code lays out: `d` is the area as it is lent each time, and `s` as it comes back.
 pub laid : (v : Vec ℕ Global) (n : ℕ) (d₁ s₁ d₂ s₂ : List ℕ) → v.items ≡ replicate (8 + n + 2048 * n) 0
-    → d₁ ≡ v.items → s₁ ≡ cond (fits 4 d₁ 0) (put_word d₁ 0 n) d₁
-    → d₂ ≡ (with_items v s₁).items → s₂ ≡ cond (fits 4 d₂ 4) (put_word d₂ 4 2048) d₂
+    → d₁ ≡ v.items → s₁ ≡ put_word d₁ 0 n → d₂ ≡ (with_items v s₁).items → s₂ ≡ put_word d₂ 4 2048
     → (with_items (with_items v s₁) s₂).items ≡ blank_set n
 unfolding blank_set
-laid v n d₁ s₁ d₂ s₂ z e₁ p₁ e₂ p₂ =
+laid v n d₁ s₁ d₂ s₂ z e₁ q₁ e₂ q₂ =
     let bare = e₁ ∙ z in
-    let l₁ = bare_long n d₁ (put_word d₁ 0 n) (put_word (put_word d₁ 0 n) 4 2048) bare refl refl in
-    let q₁ = put d₁ s₁ 0 n (omega arith) p₁ in
     let f₁ = first_long n d₁ s₁ (put_word s₁ 4 2048) bare q₁ refl in
     let lv : v.len ≡ 8 + n + 2048 * n = v.ok.0 ∙ ap length z ∙ length-replicate {A = ℕ} (8 + n + 2048 * n) 0 in
-    let r₁ = with_items_is v s₁ (f₁ ∙ sym lv) in
-    let d₂_is : d₂ ≡ s₁ = e₂ ∙ r₁ in
-    let f₂ : length d₂ ≡ 8 + n + 2048 * n = ap length d₂_is ∙ f₁ in
-    let q₂ = put d₂ s₂ 4 2048 (omega arith) p₂ in
+    let d₂_is : d₂ ≡ s₁ = e₂ ∙ with_items_is v s₁ (f₁ ∙ sym lv) in
     let s₂_is : s₂ ≡ put_word s₁ 4 2048 = q₂ ∙ ap (λ l. put_word l 4 2048) d₂_is in
     let b₂ = both_long n d₁ s₁ s₂ bare q₁ s₂_is in
     with_items_is (with_items v s₁) s₂ (b₂ ∙ sym lv) ∙ s₂_is

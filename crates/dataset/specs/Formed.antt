@@ -5,25 +5,22 @@ use Rattle.std.proofs.lemmas.List.{get_or-set_same, get_or-set_other}
 use Rattle.std.proofs.lemmas.Bool.{both_ways, cases_eq, le-leb, leb-true, eq-eqb, eqb-true}
 use Rattle.storage.specs.Bytes.{word, put_page}
 use Rattle.storage.specs.Laws.{Within}
-use Rattle.storage.proofs.Over.{laws, elsewhere}
+use Rattle.storage.specs.Over.{laws, elsewhere}
 use Rattle.dataset.specs.declared.refusal.OpenRefusal.{OpenRefusal}
 use Rattle.dataset.specs.declared.refusal.OpenRefusal.TheVariants.{TooShort, OtherPageSize, TooManySlots, OtherLength, UnknownMark}
 use Rattle.dataset.specs.Format.{Formed, is_data_set, mark_of, marks_known, opened, slots_of, slots_in}
 use Rattle.dataset.specs.Opening.{known_at, known_from}
-
-ok_err : (n : ℕ) (why : OpenRefusal) → ◌≡◌ {A = Result ℕ OpenRefusal} (Err why) (Ok n) → ⊥
-ok_err n why e = let z : ◌≡◌ {A = ℕ} 0 1 = cc in omega arith
 
 -- The five tests, where all are passed.
 passed : (a s f l m : Bool) (w n : ℕ)
     → ◌≡◌ {A = Result ℕ OpenRefusal} (cond a (cond s (cond f (cond l (cond m (Ok w) (Err UnknownMark)) (Err OtherLength)) (Err TooManySlots)) (Err OtherPageSize)) (Err TooShort)) (Ok n)
     → (s ≡ true) × (f ≡ true) × (l ≡ true) × (m ≡ true) × (n ≡ w)
 passed true true true true true w n e = (refl, refl, refl, refl, cc)
-passed true true true true false w n e = absurd (ok_err n UnknownMark e)
-passed true true true false m w n e = absurd (ok_err n OtherLength e)
-passed true true false l m w n e = absurd (ok_err n TooManySlots e)
-passed true false f l m w n e = absurd (ok_err n OtherPageSize e)
-passed false s f l m w n e = absurd (ok_err n TooShort e)
+passed true true true true false w n e = cc
+passed true true true false m w n e = cc
+passed true true false l m w n e = cc
+passed true false f l m w n e = cc
+passed false s f l m w n e = cc
 
 module _ (b : List ℕ) where
   pub opened_formed : (n : ℕ) → opened b ≡ Ok n → Formed b × (n ≡ word b 0)

@@ -1,4 +1,5 @@
 pub mod Numbers
+pub mod Marks
 pub mod Format
 pub mod Laws
 pub mod Slots

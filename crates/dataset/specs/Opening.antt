@@ -1,11 +1,14 @@
 -- What opening an area finds, test by test, and what is known of an area that it accepts.
-use Rattle.std.specs.Prelude.{◌≡◌, ℕ, zero, suc, ◌+◌, ◌*◌, ◌<◌, ◌≤◌, Bool, true, false, cond, leb, List, length, Some, None, Ok, Err, ◌==◌, ◌≢◌, nat_le, nat_lt, refl}
-use Rattle.std.proofs.Math.Path.{sym}
-use Rattle.std.proofs.Common.{ap, ◌∙◌, inl, inr, arith, add-one}
+use Rattle.std.specs.Prelude.{◌≡◌, ℕ, zero, suc, ◌+◌, ◌*◌, ◌<◌, ◌≤◌, Bool, true, false, cond, ◌&&◌, leb, List, length, take, drop, Some, None, Ok, Err, is_ok, ◌==◌, ◌≢◌, nat_le, nat_lt, refl}
+use Rattle.std.specs.List.{list_all}
+use Rattle.std.proofs.Common.{sym, ap, ◌∙◌, inl, inr, arith, add-one, length-drop, get_or-drop}
 use Rattle.std.proofs.lemmas.Bool.{cases_lt, cases_Bool, both_ways, lt-ltb, ltb-true, le-leb, lt-leb, leb-true, eq-eqb, ne_eqb}
+use Rattle.std.proofs.lemmas.Bool.Decides.{nat_tests}
+use Rattle.std.proofs.lemmas.List.Folds.{list_all_more}
 use Rattle.storage.specs.Bytes.{word, word_at}
 use Rattle.dataset.specs.declared.refusal.OpenRefusal.TheVariants.{TooShort, OtherPageSize, TooManySlots, OtherLength, UnknownMark}
 use Rattle.dataset.specs.Format.{mark_of, marks_known, opened}
+use Rattle.dataset.specs.Marks.{mark_from}
 
 -- Marks one by one.
 pub known_none : (b : List ℕ) → marks_known b 0 ≡ true
@@ -39,6 +42,33 @@ known_from b (suc n) h = known_step b n ∙ ap (λ t. cond t (marks_known b n) f
 pub unknown : (b : List ℕ) (n k : ℕ) → k < n → 3 ≤ mark_of b k → marks_known b n ≡ false
 unknown b n k l h =
     elim (cases_Bool (marks_known b n)) [ inl t ↦ absurd (let g = known_at b n k t l in omega arith) | inr t ↦ t ]
+
+-- The numbers that tell a mark.
+is_mark : (m : ℕ) → is_ok (mark_from m) ≡ nat_lt m 3
+is_mark zero = refl
+is_mark (suc zero) = refl
+is_mark (suc (suc zero)) = refl
+is_mark (suc (suc (suc m))) = grind (arith, nat_tests)
+
+and_turned : (x y : Bool) → cond x y false ≡ (y && x)
+and_turned true true = refl
+and_turned true false = refl
+and_turned false true = refl
+and_turned false false = refl
+
+-- The marks of the first n slots all tell one.
+pub known_list : (b : List ℕ) (n : ℕ) → 8 + n ≤ length b → marks_known b n ≡ list_all (λ m. is_ok (mark_from m)) (take n (drop 8 b))
+known_list b zero h = known_none b
+known_list b (suc n) h =
+    let at : n < length (drop 8 b) = simp length-drop (omega arith) in
+    let more = list_all_more (λ m. is_ok (mark_from m)) (drop 8 b) n 0 at in
+    let there = get_or-drop 8 b n 0 in
+    let here = is_mark (mark_of b n) in
+    let step = known_step b n in
+    let turned = and_turned (nat_lt (mark_of b n) 3) (marks_known b n) in
+    let rest = known_list b n (omega arith) in
+    let one = add-one n in
+    cc
 
 -- A number that was read, or not, says where the area ends.
 some_picked : (t : Bool) (x y : ℕ) → Some x ≡ cond t (Some y) None → (t ≡ true) × (x ≡ y)

@@ -1,21 +1,32 @@
 -- The slots of a data set: what a write leaves of each.
-use Rattle.std.specs.Prelude.{◌≡◌, ℕ, ◌+◌, ◌-◌, ◌*◌, ◌<◌, ◌≤◌, Bool, true, false, cond, ◌&&◌, ◌⊎◌, List, length, take, drop, set, replicate, Some, None, Ok, Option, Vec, ◌==◌, ◌≢◌, nat_lt, slice_set, refl}
-use Rattle.std.proofs.Common.{sym, ap, ◌∙◌, inl, inr, arith}
+use Rattle.std.specs.Prelude.{◌≡◌, ℕ, ◌+◌, ◌-◌, ◌*◌, ◌<◌, ◌≤◌, zero, suc, Bool, true, false, cond, ◌&&◌, ◌⊎◌, List, length, take, drop, set, replicate, Some, None, Ok, Option, Vec, ◌==◌, ◌≢◌, nat_lt, slice_index, slice_set, refl}
+use Rattle.std.proofs.Common.{sym, ap, ◌∙◌, inl, inr, arith, get_or}
 use borrow.Rule.Slice.PartMut.{put_mid}
+use Rattle.std.specs.Bool.{then_some}
+use Rattle.std.specs.Option.{IfSome, option_map}
+use Rattle.std.specs.Result.{result_ok}
 use Rattle.std.specs.Vec.{with_items, with_item}
 use Rattle.std.specs.declared.alloc.Global.{Global}
-use Rattle.std.proofs.lemmas.List.{length-set, with_items_is}
-use Rattle.std.proofs.lemmas.Bool.{cases_eq, cases_lt, eq-eqb, ne_eqb, lt-ltb, le-ltb}
+use Rattle.std.proofs.lemmas.List.{length-set, get_or_read, with_items_is}
+use Rattle.std.proofs.lemmas.Bool.{cases_eq, cases_lt, eq-eqb, ne_eqb, lt-ltb, ltb-true, le-ltb}
 use Rattle.pages.specs.declared.fault.StoreRefusal.{StoreRefusal}
 use Rattle.pages.specs.Store.{Lawful, Usable, refusal_at}
 use Rattle.pages.proofs.Refusals.{none_usable}
 use Rattle.storage.specs.Bytes.{word, page, put_page, zeros}
 use Rattle.storage.specs.Laws.{Within}
-use Rattle.storage.proofs.Over.{laws, elsewhere}
+use Rattle.storage.specs.Over.{laws, elsewhere}
 use Rattle.storage.proofs.Parted.{put_mid_lem, part, cleared}
 use Rattle.dataset.specs.Laws.{Touched}
 use Rattle.dataset.specs.Format.{Formed, mark_of, opened, slots_in, place_of, set_rules, checked}
+use Rattle.dataset.specs.Marks.{mark_from, number_of}
 use Rattle.dataset.specs.Formed.{formed_opened, formed_slots, slot_formed, slots_few, mark_same, mark_other, mark_formed, page_formed}
+
+-- A number below 3 tells the mark of that number.
+told : (n : ℕ) → n < 3 → option_map number_of (result_ok (mark_from n)) ≡ Some n
+told zero h = refl
+told (suc zero) h = refl
+told (suc (suc zero)) h = refl
+told (suc (suc (suc n))) h = absurd (omega arith)
 
 -- Two slots have no byte in common.
 apart : (s j k : ℕ) → (j ≢ k) → (s + 2048 * j + 2048 ≤ s + 2048 * k) ⊎ (s + 2048 * k + 2048 ≤ s + 2048 * j)
@@ -39,6 +50,37 @@ mark_opened b k v h l =
     let s = formed_slots b f in
     let t = mark_formed b k v f (omega arith) l in
     formed_opened (slice_set b (8 + k) v) t.0 ∙ ap Ok t.1 ∙ sym (formed_opened b f)
+
+-- Where the code finds the mark of a slot: within the area.
+pub place_found : (b : List ℕ) (k : ℕ) → IfSome (then_some (nat_lt k (slots_in b)) (8 + k)) (λ at. at < length b)
+place_found b k =
+    elim (cases_lt k (slots_in b)) [
+      | inl l ↦ rw (lt-ltb k (slots_in b) l) (mark_within b k l)
+      | inr l ↦ rw (le-ltb k (slots_in b) l) tt
+    ]
+
+placed : (t : Bool) (at i : ℕ) → Some at ≡ cond t (Some i) None → (t ≡ true) × (at ≡ i)
+placed true at i e = (refl, cc)
+placed false at i e = cc
+
+module _ (b : List ℕ) (k at : ℕ) (place : Some at ≡ cond (nat_lt k (slots_in b)) (Some (8 + k)) None) where
+  found : k < slots_in b
+  found = ltb-true k (slots_in b) (placed (nat_lt k (slots_in b)) at (8 + k) place).0
+
+  at_is : at ≡ 8 + k
+  at_is = (placed (nat_lt k (slots_in b)) at (8 + k) place).1
+
+  -- the mark that the number there tells
+  pub mark_told : (n : ℕ) → n ≡ get_or b at n
+      → option_map number_of (result_ok (mark_from n)) ≡ cond (nat_lt k (slots_in b)) (Some (mark_of b k)) None
+  mark_told n e =
+      let f = slot_formed b k found in
+      let m : n ≡ mark_of b k = get_or_read b at n (let w = mark_within b k found in let q = at_is in omega arith) e 0 ∙ ap (λ i. slice_index b i) at_is in
+      let l = f.marks k (let s = formed_slots b f in let h = found in omega arith) in
+      told n (omega arith) ∙ ap Some m ∙ sym (ap (λ t. cond t (Some (mark_of b k)) None) (lt-ltb k (slots_in b) found))
+
+  pub mark_put : (v : ℕ) → v < 3 → opened (slice_set b at v) ≡ opened b
+  mark_put v l = ap (λ i. opened (slice_set b i v)) at_is ∙ mark_opened b k v found l
 
 -- A page written to a slot.
 module _ (b : List ℕ) (k : ℕ) (p : List ℕ) (h : k < slots_in b) (e : length p ≡ 2048) where
@@ -148,7 +190,7 @@ set_lawful = record {
 -- What the test of a slot has found, at a buffer of n bytes.
 mark_found : (b : List ℕ) (k mark : ℕ) (o : Option StoreRefusal) → Ok mark ≡ checked b k o → (o ≡ None) × (mark ≡ mark_of b k)
 mark_found b k mark None e = (refl, cc)
-mark_found b k mark (Some why) e = absurd (let z : ◌≡◌ {A = ℕ} 0 1 = cc in omega arith)
+mark_found b k mark (Some why) e = cc
 
 module _ (b : List ℕ) (k n mark : ℕ) (ok : Ok mark ≡ checked b k (refusal_at set_rules b k n)) where
   pub unrefused : refusal_at set_rules b k n ≡ None

@@ -1,39 +1,46 @@
 //! The area of a page data set, and what opening it found.
-ghost use Rattle.std.specs.Prelude.{◌≡◌, ℕ, ◌+◌, ◌≤◌, List, length, IfOk, if◌then◌else◌, Some, None, MatchResult, ◌==◌, nat_lt};
+ghost use Rattle.std.specs.Prelude.{◌≡◌, ℕ, ◌+◌, ◌<◌, ◌≤◌, List, Vec, length, IfOk, IfSome, if◌then◌else◌, Some, None, MatchResult, nat_lt};
+ghost use Rattle.std.specs.declared.alloc.Global.{Global};
+ghost use Rattle.std.specs.Option.{option_map};
+ghost use Rattle.std.specs.Result.{result_map_both};
 ghost use Rattle.pages.specs.Store.{refusal_at};
 ghost use Rattle.dataset.specs.Laws.{SetLaws};
-ghost use Rattle.dataset.specs.Format.{Blank, bad_answer, blank_refused, blank_set, checked, mark_answer, mark_of, marked, marks_known, opened, place_of, set_fault, set_rules, slots_in, why_not};
+ghost use Rattle.dataset.specs.Format.{Blank, bad_answer, blank_refused, blank_set, checked, mark_answer, mark_of, marked, marks_known, opened, place_of, set_rules, slots_in, why_not};
+ghost use Rattle.dataset.specs.Marks.{number_of};
 ghost use Rattle.dataset.specs.Slots.{set_lawful};
-ghost use Rattle.std.proofs.Common.{rules, arith};
+ghost use Rattle.std.proofs.Common.{rules};
 
+use crate::mark::Mark;
 use crate::refusal::{BlankRefusal, MarkRefusal, OpenRefusal};
 use pages::fault::{Fault, StoreRefusal};
 use pages::store::{MOST_SLOTS, PageStore};
 use std::alloc::Global;
-use storage::{PAGE, put_word, word};
+use std::marker::Model;
+use storage::{Number, PAGE, read_number};
 
 /// Bytes of the two numbers at the front.
 const FRONT: usize = 8;
-
-/// The mark of a slot that was written. A blank one has mark 0.
-const WRITTEN: u8 = 1;
-
-/// The mark of a bad slot, and the highest that there is.
-const BAD: u8 = 2;
 
 /// An area that was opened. Where opening refused it, it is kept as it is and the store has no slots.
 #[derive(Drop)]
 pub struct DataSet {
     area: Vec<u8>,
     slots: Result<u32, OpenRefusal>,
-    ghost known: { slots ≡ opened area.items },
+}
+
+/// Contracts see the area itself, from which what opening found is known.
+impl Model for DataSet {
+    ghost Value = { Vec ℕ Global };
+
+    ghost view = { λ s. s.area };
+
+    ghost invariant = { λ s. s.slots ≡ opened s.area.items };
 }
 
 impl DataSet {
     /// Opens an area, and checks it first.
     pub fn open(area: Vec<u8>) -> DataSet
-        ensures kept { result.area ≡ area }
-        ensures checked { result.slots ≡ opened area.items }
+        ensures { result ≡ area }
     {
         let slots = inspect(&area);
         DataSet { area, slots }
@@ -41,18 +48,16 @@ impl DataSet {
 
     /// A data set of so many blank slots.
     pub fn blank(heap: Global, slots: u32) -> Result<DataSet, BlankRefusal>
-        ensures cases { MatchResult result (λ d. (slots ≤ 8192) × (d.area.items ≡ blank_set slots)) (blank_refused slots) }
-        ensures slots { IfOk result (λ d. Blank slots d.area.items) }
+        ensures cases { MatchResult result (λ d. (slots ≤ 8192) × (d.items ≡ blank_set slots)) (blank_refused slots) }
+        ensures slots { IfOk result (λ d. Blank slots d.items) }
     {
         if slots > MOST_SLOTS {
             return Err(BlankRefusal::TooManySlots);
         }
         let count = slots as usize;
-        let Ok(mut area) = vec![in heap; 0u8; FRONT + count + PAGE * count] else {
-            return Err(BlankRefusal::NoMemory);
-        };
-        put_word(&mut area, 0, slots);
-        put_word(&mut area, 4, PAGE as u32);
+        let mut area = vec![in heap; 0u8; FRONT + count + PAGE * count]?;
+        slots.write(&mut area, 0);
+        (PAGE as u32).write(&mut area, 4);
         Ok(DataSet {
             area,
             slots: Ok(slots),
@@ -61,102 +66,99 @@ impl DataSet {
 
     /// Why the area was refused, if it was.
     pub fn refusal(&self) -> Option<OpenRefusal>
-        ensures { result ≡ why_not (opened self.now.area.items) }
+        ensures { result ≡ why_not (opened self.now.items) }
     {
-        match self.slots {
-            Ok(_) => None,
-            Err(why) => Some(why),
-        }
+        self.slots.err()
     }
 
     /// The mark of a slot, or none where there is no such slot.
-    pub fn mark(&self, slot: u32) -> Option<u8>
-        ensures { result ≡ (if nat_lt slot (slots_in self.now.area.items) then Some (mark_of self.now.area.items slot) else None) }
+    pub fn mark(&self, slot: u32) -> Option<Mark>
+        ensures { option_map number_of result ≡ (if nat_lt slot (slots_in self.now.items) then Some (mark_of self.now.items slot) else None) }
     {
-        if slot >= self.count() {
-            return None;
-        }
-        Some(self.area[FRONT + slot as usize])
+        let at = self.mark_place(slot)?;
+        // An area with slots was accepted, so the number tells a mark.
+        Mark::try_from(self.area[at]).ok()
     }
 
     /// Puts a mark of any value at a slot and opens the area again.
     pub fn set_mark(&mut self, slot: u32, mark: u8) -> Result<(), MarkRefusal>
-        ensures answer { result ≡ mark_answer self.old.area.items slot mark }
-        ensures after { self.new.area.items ≡ marked self.old.area.items slot mark }
+        ensures answer { result ≡ mark_answer self.old.items slot mark }
+        ensures after { self.new.items ≡ marked self.old.items slot mark }
     {
-        if slot >= self.count() {
-            return Err(MarkRefusal::NoSuchSlot);
-        }
-        self.area[FRONT + slot as usize] = mark;
+        let at = self.mark_place(slot).ok_or(MarkRefusal::NoSuchSlot)?;
+        self.area[at] = mark;
         self.slots = inspect(&self.area);
-        match self.slots {
-            Ok(_) => Ok(()),
-            Err(why) => Err(MarkRefusal::NotDataSet(why)),
-        }
+        self.slots?;
+        Ok(())
     }
 
     /// Marks a slot bad.
     pub fn mark_bad(&mut self, slot: u32) -> Result<(), Fault>
-        ensures answer { result ≡ bad_answer self.old.area.items slot }
-        ensures after { self.new.area.items ≡ marked self.old.area.items slot 2 }
-        ensures kept { opened self.new.area.items ≡ opened self.old.area.items }
+        ensures answer { result ≡ bad_answer self.old.items slot }
+        ensures after { self.new.items ≡ marked self.old.items slot 2 }
+        ensures kept { opened self.new.items ≡ opened self.old.items }
     {
-        if slot >= self.count() {
-            return Err(refused(StoreRefusal::NoSuchSlot, slot));
-        }
-        self.area[FRONT + slot as usize] = BAD;
+        let at = self
+            .mark_place(slot)
+            .ok_or(Fault::new(StoreRefusal::NoSuchSlot, Self::KIND, slot))?;
+        self.area[at] = Mark::Bad.number();
         Ok(())
     }
 
-    /// The mark of a slot that can be read and written with a buffer of so many bytes, or the first refusal that holds.
-    fn check(&self, slot: u32, length: usize) -> Result<u8, Fault>
-        ensures { result ≡ checked self.now.area.items slot (refusal_at set_rules self.now.area.items slot length) }
+    /// Where the mark of a slot stands, or none where there is no such slot.
+    fn mark_place(&self, slot: u32) -> Option<usize>
+        ensures place { result ≡ (if nat_lt slot (slots_in self.now.items) then Some (8 + slot) else None) }
+        ensures within { IfSome result (λ at. at < length self.now.items) }
     {
+        (slot < self.count()).then_some(FRONT + slot as usize)
+    }
+
+    /// The mark of a slot that can be read and written with a buffer of so many bytes, or the first refusal that holds.
+    fn check(&self, slot: u32, length: usize) -> Result<Mark, Fault>
+        ensures { result_map_both number_of (λ fault. fault) result ≡ checked self.now.items slot (refusal_at set_rules self.now.items slot length) }
+    {
+        // Not one test with the plain area's: the mark that is looked at here is the answer too.
         if length != PAGE {
-            return Err(refused(StoreRefusal::WrongLength, slot));
+            return Err(Fault::new(StoreRefusal::WrongLength, Self::KIND, slot));
         }
-        let Some(mark) = self.mark(slot) else {
-            return Err(refused(StoreRefusal::NoSuchSlot, slot));
-        };
-        if mark == BAD {
-            return Err(refused(StoreRefusal::BadSlot, slot));
+        let mark = self
+            .mark(slot)
+            .ok_or(Fault::new(StoreRefusal::NoSuchSlot, Self::KIND, slot))?;
+        if mark == Mark::Bad {
+            return Err(Fault::new(StoreRefusal::BadSlot, Self::KIND, slot));
         }
         Ok(mark)
     }
 
     /// Where the bytes of a slot begin.
     fn place(&self, slot: u32) -> usize
-        ensures { result ≡ place_of self.now.area.items slot }
+        ensures { result ≡ place_of self.now.items slot }
     {
         FRONT + self.count() as usize + PAGE * slot as usize
     }
 
     /// The bytes of the area, to be saved: byte for byte what the format says, or what was refused.
     pub fn area(&self) -> &[u8]
-        ensures { result.now ≡ self.now.area.items }
+        ensures { result.now ≡ self.now.items }
     {
-        self.area.as_slice()
+        &self.area
     }
 
     /// The area itself, taken out again.
     pub fn into_area(self) -> Vec<u8>
-        ensures { result ≡ self.area }
+        ensures { result ≡ self }
     {
-        let DataSet { area, slots: _ } = self;
-        area
+        self.area
     }
 }
 
 /// The number of slots of an area, or why it is no page data set.
+#[tactic(auto, unfolding(crate::specs::Format::opened))]
 fn inspect(area: &[u8]) -> Result<u32, OpenRefusal>
     ensures { result ≡ opened area.now }
 {
-    let Some(size) = word(area, 4) else {
-        return Err(OpenRefusal::TooShort);
-    };
-    let Some(slots) = word(area, 0) else {
-        return Err(OpenRefusal::TooShort);
-    };
+    let size = read_number::<u32>(area, 4).ok_or(OpenRefusal::TooShort)?;
+    let slots = read_number::<u32>(area, 0).ok_or(OpenRefusal::TooShort)?;
     if size as usize != PAGE {
         return Err(OpenRefusal::OtherPageSize);
     }
@@ -178,57 +180,28 @@ fn marks_known(area: &[u8], count: usize) -> bool
     requires { 8 + count ≤ length area.now }
     ensures { result ≡ marks_known area.now count }
 {
-    for k in 0..count {
-        if area[FRONT + k] > BAD {
-            return false;
-        }
-    }
-    true
-}
-
-/// Whether a slot with this mark holds the page in its bytes, and is not blank.
-fn holds_page(mark: u8) -> bool
-    ensures { result ≡ (mark == 1) }
-{
-    mark == WRITTEN
-}
-
-/// A fault of this kind of store.
-fn refused(refusal: StoreRefusal, slot: u32) -> Fault
-    ensures { result ≡ set_fault refusal slot }
-{
-    Fault {
-        refusal,
-        kind: <DataSet as PageStore>::KIND,
-        slot,
-        cause: None,
-    }
+    area[FRONT..FRONT + count]
+        .iter()
+        .all(|mark| Mark::try_from(*mark).is_ok())
 }
 
 impl PageStore for DataSet {
     const KIND: u8 = 2;
 
+    ghost KIND = { 2 };
+
     ghost Model = { List ℕ };
 
-    ghost model = { λ s. s.area.items };
+    ghost model = { λ s. s.items };
 
     ghost rules = { set_rules };
 
-    ghost number = { 2 };
-
     ghost lawful = { set_lawful };
 
-    ghost valid = { first_of (Prim.search rules, Prim.grind (arith, Self.row.coded.inj)) };
-
-    fn kind_number() -> u8 {
-        Self::KIND
-    }
+    ghost valid = { Prim.search rules };
 
     fn count(&self) -> u32 {
-        match self.slots {
-            Ok(slots) => slots,
-            Err(_) => 0,
-        }
+        self.slots.unwrap_or(0)
     }
 
     fn good(&self, slot: u32) -> Result<(), Fault> {
@@ -238,7 +211,7 @@ impl PageStore for DataSet {
 
     fn read(&self, slot: u32, page: &mut [u8]) -> Result<(), Fault> {
         let mark = self.check(slot, page.len())?;
-        if !holds_page(mark) {
+        if mark != Mark::Written {
             page.fill(0);
             return Ok(());
         }
@@ -250,9 +223,8 @@ impl PageStore for DataSet {
     fn write(&mut self, slot: u32, page: &[u8]) -> Result<(), Fault> {
         self.check(slot, page.len())?;
         let at = self.place(slot);
-        self.area[FRONT + slot as usize] = WRITTEN;
-        let part = &mut self.area[at..at + PAGE];
-        part.copy_from_slice(page);
+        self.area[FRONT + slot as usize] = Mark::Written.number();
+        self.area[at..at + PAGE].copy_from_slice(page);
         Ok(())
     }
 }
@@ -345,22 +317,22 @@ mod tests {
         assert_eq!(rt; store.mark_bad(1), Ok(()));
         assert_eq!(rt;
             store.mark_bad(2),
-            Err(refused(StoreRefusal::NoSuchSlot, 2))
+            Err(Fault::new(StoreRefusal::NoSuchSlot, DataSet::KIND, 2))
         );
         assert_eq!(rt;
             store.write(1, &page[0..2047]),
-            Err(refused(StoreRefusal::WrongLength, 1))
+            Err(Fault::new(StoreRefusal::WrongLength, DataSet::KIND, 1))
         );
         assert_eq!(rt;
             store.write(2, &page),
-            Err(refused(StoreRefusal::WrongLength, 2))
+            Err(Fault::new(StoreRefusal::WrongLength, DataSet::KIND, 2))
         );
         assert_eq!(rt;
             store.write(1, &page[0..2048]),
-            Err(refused(StoreRefusal::BadSlot, 1))
+            Err(Fault::new(StoreRefusal::BadSlot, DataSet::KIND, 1))
         );
         assert_eq!(rt; store.write(0, &page[0..2048]), Ok(()));
-        assert_eq!(rt; store.mark(0), Some(1));
+        assert_eq!(rt; store.mark(0).map(Mark::number), Some(1));
         Ok(())
     }
 
@@ -372,7 +344,10 @@ mod tests {
             store.set_mark(1, 3),
             Err(MarkRefusal::NotDataSet(OpenRefusal::UnknownMark))
         );
-        assert_eq!(rt; store.good(0), Err(refused(StoreRefusal::NoSuchSlot, 0)));
+        assert_eq!(rt;
+            store.good(0),
+            Err(Fault::new(StoreRefusal::NoSuchSlot, DataSet::KIND, 0))
+        );
         assert_eq!(rt; store.into_area().get(9).copied(), Some(3));
         Ok(())
     }

@@ -3,4 +3,5 @@
 #![tactic(auto)]
 
 pub mod data_set;
+pub mod mark;
 pub mod refusal;

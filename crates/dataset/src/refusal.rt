@@ -1,7 +1,11 @@
 //! Why an area is no page data set.
 ghost use Rattle.std.specs.Prelude.{◌≡◌};
+ghost use Rattle.dataset.specs.declared.refusal.BlankRefusal.TheVariants.{NoMemory};
+ghost use Rattle.dataset.specs.declared.refusal.MarkRefusal.TheVariants.{NotDataSet};
 ghost use Rattle.dataset.specs.Numbers.{open_number, mark_number};
 
+use std::alloc::AllocError;
+use std::error::Error;
 use std::fmt;
 
 /// Why opening refuses an area: the first of these that holds.
@@ -24,6 +28,7 @@ impl OpenRefusal {
     pub fn number(self) -> u8
         ensures { result ≡ open_number self }
     {
+        // No numbers on the cases: they have one and the same, which two cases cannot share.
         53
     }
 }
@@ -42,10 +47,19 @@ impl MarkRefusal {
     pub fn number(self) -> u8
         ensures { result ≡ mark_number self }
     {
+        // A `match`: a case that carries a value has no number of its own to cast.
         match self {
             MarkRefusal::NoSuchSlot => 50,
             MarkRefusal::NotDataSet(why) => why.number(),
         }
+    }
+}
+
+impl From<OpenRefusal> for MarkRefusal {
+    ghost from_gives = { λ why r. r ≡ NotDataSet why };
+
+    fn from(why: OpenRefusal) -> Self {
+        Self::NotDataSet(why)
     }
 }
 
@@ -56,6 +70,14 @@ pub enum BlankRefusal {
     TooManySlots,
     /// There is no memory for the area.
     NoMemory,
+}
+
+impl From<AllocError> for BlankRefusal {
+    ghost from_gives = { λ _ r. r ≡ NoMemory };
+
+    fn from(_: AllocError) -> Self {
+        Self::NoMemory
+    }
 }
 
 impl fmt::Display for OpenRefusal {
@@ -74,7 +96,7 @@ impl fmt::Display for OpenRefusal {
 impl fmt::Display for MarkRefusal {
     fn fmt<W: fmt::Write>(&self, f: &mut fmt::Formatter<W>) -> fmt::Result {
         match self {
-            MarkRefusal::NoSuchSlot => write!(f, "no such slot"),
+            MarkRefusal::NoSuchSlot => f.write_str("no such slot"),
             MarkRefusal::NotDataSet(why) => write!(f, "{why}"),
         }
     }
@@ -83,8 +105,14 @@ impl fmt::Display for MarkRefusal {
 impl fmt::Display for BlankRefusal {
     fn fmt<W: fmt::Write>(&self, f: &mut fmt::Formatter<W>) -> fmt::Result {
         match self {
-            BlankRefusal::TooManySlots => write!(f, "a data set has at most 8192 slots"),
-            BlankRefusal::NoMemory => write!(f, "no memory"),
+            BlankRefusal::TooManySlots => f.write_str("a data set has at most 8192 slots"),
+            BlankRefusal::NoMemory => f.write_str("no memory"),
         }
     }
 }
+
+impl Error for OpenRefusal {}
+
+impl Error for MarkRefusal {}
+
+impl Error for BlankRefusal {}

@@ -1,24 +1,18 @@
 -- Which refusal a call meets, over any store's rules, and what follows of its answer, the buffer and the store.
-use Rattle.std.proofs.Common.{◌≡◌, ℕ, ◌<◌, ◌≤◌, Bool, true, false, cond, eqb, ltb, List, length, Some, None, Ok, Err, Option, Result, sym, refl, ap, ◌∙◌, arith}
+use Rattle.std.proofs.Common.{◌≡◌, ℕ, ◌<◌, ◌≤◌, Bool, true, false, cond, eqb, ltb, List, length, Some, None, Ok, Option, sym, refl, ap, ◌∙◌}
 use Rattle.std.proofs.lemmas.Bool.{eq-eqb, ne_eqb, lt-ltb, le-ltb, ltb-true, eqb-true}
 use Rattle.pages.specs.declared.fault.StoreRefusal.{StoreRefusal}
 use Rattle.pages.specs.declared.fault.StoreRefusal.TheVariants.{WrongLength, NoSuchSlot, BadSlot}
 use Rattle.pages.specs.Store.{Rules, refusal_at, told, read_into, written, Usable}
-
-pub some_none : {X : Type 0} (x : X) → ◌≡◌ {A = Option X} (Some x) None → ⊥
-some_none x e = let z : ◌≡◌ {A = ℕ} 0 1 = cc in omega arith
-
-ok_err : {X Y : Type 0} (x : X) (y : Y) → ◌≡◌ {A = Result X Y} (Ok x) (Err y) → ⊥
-ok_err x y e = let z : ◌≡◌ {A = ℕ} 0 1 = cc in omega arith
 
 -- No refusal is picked only where all three tests let a call through.
 passed : (long there bad : Bool)
     → ◌≡◌ {A = Option StoreRefusal} (cond long (cond there (cond bad (Some BadSlot) None) (Some NoSuchSlot)) (Some WrongLength)) None
     → (long ≡ true) × (there ≡ true) × (bad ≡ false)
 passed true true false e = (refl, refl, refl)
-passed true true true e = absurd (some_none BadSlot e)
-passed true false bad e = absurd (some_none NoSuchSlot e)
-passed false there bad e = absurd (some_none WrongLength e)
+passed true true true e = cc
+passed true false bad e = cc
+passed false there bad e = cc
 
 module _ {M : Type 0} (r : Rules M) (m : M) (k n : ℕ) where
   pub wrong_length : (n ≡ 2048 → ⊥) → refusal_at r m k n ≡ Some WrongLength
@@ -41,13 +35,10 @@ module _ {M : Type 0} (r : Rules M) (m : M) (k n : ℕ) where
 -- A call is answered only where nothing refuses it.
 pub answered : {M : Type 0} (r : Rules M) (m : M) (k : ℕ) (o : Option StoreRefusal) → Ok tt ≡ told r m k o → o ≡ None
 answered r m k None e = refl
-answered r m k (Some why) e = absurd (ok_err tt (r.fault m why k) e)
+answered r m k (Some why) e = cc
 
--- What a call answers and leaves that nothing refuses.
+-- What a call leaves that nothing refuses.
 module _ {M : Type 0} (r : Rules M) (m : M) (k : ℕ) (buffer : List ℕ) (none : refusal_at r m k (length buffer) ≡ None) where
-  pub told_done : Ok tt ≡ told r m k (refusal_at r m k (length buffer))
-  told_done = ap (told r m k) (sym none)
-
   pub read_done : (l : List ℕ) → l ≡ r.slot m k → l ≡ read_into r m k buffer (refusal_at r m k (length buffer))
   read_done l h = h ∙ ap (read_into r m k buffer) (sym none)
 

@@ -2,17 +2,19 @@
 ghost use Rattle.std.specs.Prelude.{◌≡◌};
 ghost use Rattle.pages.specs.Numbers.{refusal_number};
 
+use std::error::Error;
 use std::fmt;
 
-/// Why a page store refuses a call, in the order in which the cases are tested.
+/// Why a page store refuses a call, in the order in which the cases are tested, each with the number under which an
+/// operator knows it.
 #[derive(Clone, Copy, PartialEq, Eq, Debug)]
 pub enum StoreRefusal {
     /// the buffer has not 2,048 bytes
-    WrongLength,
+    WrongLength = 52,
     /// the slot is not below the number of slots
-    NoSuchSlot,
+    NoSuchSlot = 50,
     /// the slot is bad
-    BadSlot,
+    BadSlot = 51,
 }
 
 impl StoreRefusal {
@@ -20,23 +22,21 @@ impl StoreRefusal {
     pub fn number(self) -> u8
         ensures { result ≡ refusal_number self }
     {
-        match self {
-            StoreRefusal::WrongLength => 52,
-            StoreRefusal::NoSuchSlot => 50,
-            StoreRefusal::BadSlot => 51,
-        }
+        self as u8
     }
 }
 
-/// The fault of a store below, whole, as a store laid over it carries it.
+/// A fault by itself, as a store laid over the one that it is of carries it.
 #[derive(Clone, Copy, PartialEq, Eq, Debug)]
 pub struct Cause {
     pub refusal: StoreRefusal,
+    // A number, since the kinds are an open set: each type that implements `PageStore` brings its own.
     pub kind: u8,
     pub slot: u32,
 }
 
 /// A refused call: why, by which kind of store, at which slot, and the fault of a store below that led to it, if any.
+// No `Cause` stands inside for the first three: they are public fields, which callers, laws and rules read by their names.
 #[derive(Clone, Copy, PartialEq, Eq, Debug)]
 pub struct Fault {
     pub refusal: StoreRefusal,
@@ -45,35 +45,57 @@ pub struct Fault {
     pub cause: Option<Cause>,
 }
 
+impl Fault {
+    /// The fault of a store that is laid over no other.
+    pub fn new(refusal: StoreRefusal, kind: u8, slot: u32) -> Fault
+        ensures { result ≡ record { refusal = refusal; kind = kind; slot = slot; cause = None } }
+    {
+        Fault {
+            refusal,
+            kind,
+            slot,
+            cause: None,
+        }
+    }
+}
+
 impl fmt::Display for StoreRefusal {
     fn fmt<W: fmt::Write>(&self, f: &mut fmt::Formatter<W>) -> fmt::Result {
-        let why = match self {
+        f.write_str(match self {
             StoreRefusal::WrongLength => "the buffer has not 2048 bytes",
             StoreRefusal::NoSuchSlot => "no such slot",
             StoreRefusal::BadSlot => "the slot is bad",
-        };
-        write!(f, "{why}")
+        })
     }
 }
 
 impl fmt::Display for Cause {
     fn fmt<W: fmt::Write>(&self, f: &mut fmt::Formatter<W>) -> fmt::Result {
-        let number = self.refusal.number();
-        let kind = self.kind;
-        let slot = self.slot;
-        write!(f, "{number} kind {kind} slot {slot}")
+        write!(
+            f,
+            "{} kind {} slot {}",
+            self.refusal.number(),
+            self.kind,
+            self.slot
+        )
     }
 }
 
 /// As `51 kind 2 slot 4`, and the fault below in parentheses after it.
 impl fmt::Display for Fault {
     fn fmt<W: fmt::Write>(&self, f: &mut fmt::Formatter<W>) -> fmt::Result {
-        let number = self.refusal.number();
-        let kind = self.kind;
-        let slot = self.slot;
+        let own = Cause {
+            refusal: self.refusal,
+            kind: self.kind,
+            slot: self.slot,
+        };
         match self.cause {
-            None => write!(f, "{number} kind {kind} slot {slot}"),
-            Some(cause) => write!(f, "{number} kind {kind} slot {slot} ({cause})"),
+            None => write!(f, "{own}"),
+            Some(below) => write!(f, "{own} ({below})"),
         }
     }
 }
+
+impl Error for StoreRefusal {}
+
+impl Error for Fault {}

@@ -10,9 +10,9 @@ use crate::store::PageStore;
 
 /// Makes the calls one after another; each read copies its slot into `page`.
 pub fn work<S: PageStore>(store: &mut S, calls: &[Call], page: &mut [u8])
-    ensures after { S.PageStore.model store.new ≡ run_of S.PageStore.rules calls.now (S.PageStore.model store.old) }
-    ensures buffer { page.new ≡ run_buffer S.PageStore.rules calls.now (S.PageStore.model store.old) page.old }
-    ensures kept { Kept S.PageStore.rules calls.now (S.PageStore.model store.old) (S.PageStore.model store.new) }
+    ensures after { S.model store.new ≡ run_of S.rules calls.now (S.model store.old) }
+    ensures buffer { page.new ≡ run_buffer S.rules calls.now (S.model store.old) page.old }
+    ensures kept { Kept S.rules calls.now (S.model store.old) (S.model store.new) }
 {
     for call in calls {
         make(store, call, page);
@@ -21,8 +21,8 @@ pub fn work<S: PageStore>(store: &mut S, calls: &[Call], page: &mut [u8])
 
 /// Makes one call, whatever it answers.
 fn make<S: PageStore>(store: &mut S, call: &Call, page: &mut [u8])
-    ensures after { S.PageStore.model store.new ≡ step_of S.PageStore.rules call.now (S.PageStore.model store.old) }
-    ensures buffer { page.new ≡ buffer_of S.PageStore.rules call.now (S.PageStore.model store.old) page.old }
+    ensures after { S.model store.new ≡ step_of S.rules call.now (S.model store.old) }
+    ensures buffer { page.new ≡ buffer_of S.rules call.now (S.model store.old) page.old }
 {
     match call {
         Call::Read { slot } => {
@@ -41,10 +41,10 @@ pub fn read_after<S: PageStore>(
     slot: u32,
     page: &mut [u8],
 ) -> Result<(), Fault>
-    ensures kept { Kept S.PageStore.rules calls.now (S.PageStore.model store.old) (S.PageStore.model store.new) }
-    ensures answer { result ≡ told S.PageStore.rules (S.PageStore.model store.new) slot (refusal_at S.PageStore.rules (S.PageStore.model store.old) slot (length page.old)) }
-    ensures buffer { page.new ≡ read_into S.PageStore.rules (S.PageStore.model store.new) slot (run_buffer S.PageStore.rules calls.now (S.PageStore.model store.old) page.old) (refusal_at S.PageStore.rules (S.PageStore.model store.old) slot (length page.old)) }
-    ensures reads { refusal_at S.PageStore.rules (S.PageStore.model store.old) slot (length page.old) ≡ None → page.new ≡ unwrap_or (last_written calls.now slot) (S.PageStore.rules.slot (S.PageStore.model store.old) slot) }
+    ensures kept { Kept S.rules calls.now (S.model store.old) (S.model store.new) }
+    ensures answer { result ≡ told S.rules (S.model store.new) slot (refusal_at S.rules (S.model store.old) slot (length page.old)) }
+    ensures buffer { page.new ≡ read_into S.rules (S.model store.new) slot (run_buffer S.rules calls.now (S.model store.old) page.old) (refusal_at S.rules (S.model store.old) slot (length page.old)) }
+    ensures reads { refusal_at S.rules (S.model store.old) slot (length page.old) ≡ None → page.new ≡ unwrap_or (last_written calls.now slot) (S.rules.slot (S.model store.old) slot) }
 {
     work(store, calls, page);
     store.read(slot, page)

@@ -10,8 +10,12 @@ pub const MOST_SLOTS: u32 = 8192;
 
 /// A page store. Each call refuses by the first of its cases that holds, and never otherwise.
 pub trait PageStore {
-    /// The number of this kind of store, which its faults tell.
+    /// The number of this kind of store, which its faults tell. By the rules it is a constant of the kind, and a number, since
+    /// the kinds are an open set.
     const KIND: u8;
+
+    /// The same, for contracts.
+    ghost KIND: { ℕ };
 
     /// What a store means, whatever it is made of.
     ghost Model: { Type 0 };
@@ -20,13 +24,6 @@ pub trait PageStore {
 
     /// Which slots there are, which of them are bad, what each holds, and what a write leaves.
     ghost rules: { Rules Model };
-
-    /// The number that KIND has.
-    ghost number: { ℕ };
-
-    /// KIND, for code over any store.
-    fn kind_number() -> u8
-        ensures { result ≡ number };
 
     /// How many slots there are.
     fn count(&self) -> u32

@@ -1,6 +1,5 @@
-use Rattle.std.proofs.Common.{refl}
 use Rattle.area.specs.Slots.{touches}
 use Rattle.area.proofs.laws.Goals as goal
 
-pub returns : goal.returns
-returns c = record { number = refl; laws = record { touches = touches } }
+pub returns-clause-laws : goal.returns-clause-laws
+returns-clause-laws c = record { touches = touches }
