@@ -1,7 +1,8 @@
 -- Counts of frames in lists.
-use Rattle.std.proofs.Common.{◌≡◌, ℕ, zero, suc, ◌+◌, ◌<◌, ◌≤◌, cond, eqb, List, [], ◌∷◌, ◌++◌, length, get_or, sym, refl, ap, ◌∙◌, inl, inr, arith}
+use Rattle.std.proofs.Common.{◌≡◌, ℕ, zero, suc, ◌+◌, ◌<◌, ◌≤◌, true, false, ◌||◌, cond, eqb, true≢false, List, [], ◌∷◌, ◌++◌, length, get_or, sym, refl, ap, ◌∙◌, inl, inr, arith}
 use Rattle.std.proofs.lemmas.Bool.{cases_eq, cases_lt, eq-eqb, ne_eqb, cond-true, cond-false}
-use Rattle.std.specs.List.{remove}
+use Rattle.std.specs.List.{remove, list_any, AllByRecursion, IsDistinct}
+use Rattle.std.proofs.lemmas.Map.Steps.{length-le_from_distinct_below}
 use Rattle.recency.proofs.Count.{count_append}
 use Rattle.frames.specs.Held.{times_in, without, Once}
 
@@ -71,48 +72,27 @@ without_removed f (x ∷ xs) (suc i) h e t = elim (cases_eq x f) [
   | inr ne ↦ (let s = share_other x f ne in without_later f x xs ne ∙ ap (λ l. x ∷ l) (without_removed f xs i (omega arith) e (omega arith)))
 ]
 
--- the sum of a count over the numbers below n
-abbrev pub sum_below : (ℕ → ℕ) → ℕ → ℕ
-sum_below h zero = 0
-sum_below h (suc n) = sum_below h n + h n
-
-sum_add : (g h : ℕ → ℕ) (n : ℕ) → sum_below (λ f. g f + h f) n ≡ sum_below g n + sum_below h n
-sum_add g h zero = refl
-sum_add g h (suc n) = omega (arith, sum_add g h n)
-
-sum_zero : (n : ℕ) → sum_below (λ f. 0) n ≡ 0
-sum_zero zero = refl
-sum_zero (suc n) = omega (arith, sum_zero n)
-
-sum_share_past : (x n : ℕ) → n ≤ x → sum_below (share x) n ≡ 0
-sum_share_past x zero h = refl
-sum_share_past x (suc n) h = omega (arith, sum_share_past x n (omega arith), share_other x n (λ e. omega arith))
-
-sum_share : (x n : ℕ) → x < n → sum_below (share x) n ≡ 1
-sum_share x zero h = absurd (omega arith)
-sum_share x (suc n) h = elim (cases_eq x n) [
-  | inl e ↦ omega (arith, sum_share_past x n (omega arith), share_same x n e)
-  | inr ne ↦ omega (arith, sum_share x n (omega arith), share_other x n ne)
+-- a frame that is found in the list stands there
+any_times : (f : ℕ) (xs : List ℕ) → list_any (eqb f) xs ≡ true → 1 ≤ times_in f xs
+any_times f [] y = absurd (true≢false (sym y))
+any_times f (x ∷ xs) y = elim (cases_eq x f) [
+  | inl e ↦ omega (arith, share_same x f e)
+  | inr ne ↦ omega (arith, any_times f xs (sym (ap (λ b. b || list_any (eqb f) xs) (ne_eqb f x (λ e. ne (sym e)))) ∙ y))
 ]
 
--- the counts of a list's numbers, all of them below n, make its length
-sum_counts : (xs : List ℕ) (n : ℕ) → ((i : ℕ) → i < length xs → get_or xs i 0 < n) → sum_below (λ f. times_in f xs) n ≡ length xs
-sum_counts [] n h = sum_zero n
-sum_counts (x ∷ xs) n h =
-    omega (arith, sum_add (share x) (λ f. times_in f xs) n, sum_share x n (h 0 (omega arith)), sum_counts xs n (λ i l. h (suc i) (omega arith)))
+-- one that does not stand there differs from each that does
+others : (f : ℕ) (xs : List ℕ) → times_in f xs ≡ 0 → AllByRecursion (λ x. eqb f x ≡ false) xs
+others f [] z = tt
+others f (x ∷ xs) z = (ne_eqb f x (λ e. let s = share_same x f (sym e) in omega arith), others f xs (omega arith))
 
-sum_small : (h : ℕ → ℕ) (n : ℕ) → ((f : ℕ) → h f ≤ 1) → sum_below h n ≤ n
-sum_small h zero s = omega arith
-sum_small h (suc n) s = omega (arith, sum_small h n s, s n)
-
--- so there are at most n of them, if each is there at most once
-few : (xs : List ℕ) (n : ℕ) → ((i : ℕ) → i < length xs → get_or xs i 0 < n) → ((f : ℕ) → times_in f xs ≤ 1) → length xs ≤ n
-few xs n below single = omega (arith, sum_counts xs n below, sum_small (λ f. times_in f xs) n single)
-
--- each number of a list of frames is below 256
-pub once_below : (xs : List ℕ) → Once xs → (i : ℕ) → i < length xs → get_or xs i 0 < 256
-once_below xs o i h = elim (cases_lt (get_or xs i 0) 256) [ inl l ↦ l | inr g ↦ absurd (omega (arith, (o (get_or xs i 0)).1 g, times_at xs i h)) ]
+-- a list that has each frame at most once has no two equal
+distinct : (xs : List ℕ) → ((f : ℕ) → times_in f xs ≤ 1) → IsDistinct eqb xs
+unfolding IsDistinct
+distinct [] single = tt
+distinct (x ∷ xs) single = (others x xs (let s = share_same x x refl in omega (arith, single x)), distinct xs (λ f. omega (arith, single f)))
 
 -- a list of frames, each there at most once, has at most 256 of them
 pub once_length : (xs : List ℕ) → Once xs → length xs ≤ 256
-once_length xs o = few xs 256 (once_below xs o) (λ f. (o f).0)
+once_length xs o =
+    length-le_from_distinct_below xs 256 (distinct xs (λ f. (o f).0))
+    (λ f y. let t = any_times f xs y in elim (cases_lt f 256) [ inl l ↦ l | inr g ↦ absurd (omega (arith, (o f).1 g)) ])

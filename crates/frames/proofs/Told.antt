@@ -1,13 +1,12 @@
 -- After any list of calls the frames held are those that the answers say.
-use Rattle.std.proofs.Common.{◌≡◌, ℕ, ◌+◌, ◌<◌, ◌≤◌, Bool, true, false, cond, ◌&&◌, eqb, List, [], ◌∷◌, ◌++◌, length, get_or, drop, Some, None, Option, sym, refl, ap, ◌∙◌, subst, inl, inr, arith}
-use Rattle.std.proofs.lemmas.List.{at_drop_more, at_drop_all, append_assoc, append-nil}
+use Rattle.std.proofs.Common.{◌≡◌, ℕ, ◌≤◌, Bool, true, false, cond, ◌&&◌, eqb, List, [], ◌∷◌, Some, None, Option, sym, refl, ap, ◌∙◌, subst, inl, inr, arith}
 use Rattle.std.proofs.lemmas.Bool.{cases_eq, eq-eqb, ne_eqb, and_left, cond-false}
 use Rattle.frames.specs.declared.calls.Call.{Call}
 use Rattle.frames.specs.declared.calls.Call.TheVariants.{Enter, Return, Leave, Touch, Empty, Take}
 use Rattle.frames.specs.declared.calls.Answer.{Answer}
 use Rattle.frames.specs.declared.calls.Answer.TheVariants.{Took as TookFrame}
 use Rattle.frames.specs.Policy.{Rules, Lawful, Picks, free, holds}
-use Rattle.frames.specs.Runs.{called_of, Ran, run, held_after, held_by, HeldAsTold}
+use Rattle.frames.specs.Runs.{called_of, run, held_after, held_by, HeldAsTold}
 
 -- a count that was set to 1 where a test is true
 set_one : (b : Bool) (n n' : ℕ) → n' ≡ cond b 1 n → eqb n' 1 ≡ cond b true (eqb n 1)
@@ -28,7 +27,7 @@ left_none false h n e l = refl
 module _ {M : Type 0} (r : Rules M) (law : Lawful r) where
   good_after : (c : Call) (m : M) (marks : List ℕ) → r.good m → r.good (called_of r c m marks).left
   good_after (Enter f) m marks good = law.enter_good m f good
-  good_after (Return f ref chg) m marks good = law.back_good m f ref chg good
+  good_after (Return f bits) m marks good = law.back_good m f bits.referred bits.changed good
   good_after (Leave f) m marks good = law.leave_good m f good
   good_after (Touch f) m marks good = law.touch_good m f good
   good_after Empty m marks good = law.clear_good m good
@@ -51,7 +50,8 @@ module _ {M : Type 0} (r : Rules M) (law : Lawful r) where
   told_after : (c : Call) (m : M) (marks : List ℕ) (g : ℕ) → r.good m
       → holds r (called_of r c m marks).left g ≡ held_after g (holds r m g) c (called_of r c m marks).answer
   told_after (Enter f) m marks g good = set_one (eqb g f && free r m f) (r.times m g) (r.times (r.enter m f) g) (law.enter_times m f g good)
-  told_after (Return f ref chg) m marks g good = set_one (eqb g f && free r m f) (r.times m g) (r.times (r.give_back m f ref chg) g) (law.back_times m f g ref chg good)
+  told_after (Return f bits) m marks g good =
+      set_one (eqb g f && free r m f) (r.times m g) (r.times (r.give_back m f bits.referred bits.changed) g) (law.back_times m f g bits.referred bits.changed good)
   told_after (Leave f) m marks g good = leave_told m f g good
   told_after (Touch f) m marks g good = ap (λ n. eqb n 1) (law.touch_times m f g good)
   told_after Empty m marks g good = ap (λ n. eqb n 1) (law.clear_times m g good)
@@ -75,36 +75,3 @@ module _ {M : Type 0} (r : Rules M) (law : Lawful r) where
       → says ≡ (run r cs m marks).answers → left ≡ (run r cs m marks).left → HeldAsTold r m cs says left
   told_at cs m left marks says good a b =
       subst (λ x. HeldAsTold r m cs x left) (sym a) (subst (HeldAsTold r m cs (run r cs m marks).answers) (sym b) (held_as_told cs m marks good))
-
--- One turn of the loop that makes the calls.
-module _ {M : Type 0} (r : Rules M) (cs : List Call) (i : ℕ) (d : Call) (m m' m₀ : M) (k k' k₀ : List ℕ) (a : Answer) (done done' : List Answer)
-    (h : i < length cs)
-    (answer : a ≡ (called_of r (get_or cs i d) m k).answer) (marks : k' ≡ (called_of r (get_or cs i d) m k).keys) (after : m' ≡ (called_of r (get_or cs i d) m k).left) where
-  one : run r (drop i cs) m k ≡ record { answers = a ∷ (run r (drop (i + 1) cs) m' k').answers; left = (run r (drop (i + 1) cs) m' k').left }
-  one = at_drop_more (λ l. run r l m k) cs i d h
-      ∙ ap (λ x. record {
-        answers = x ∷ (run r (drop (i + 1) cs) (called_of r (get_or cs i d) m k).left (called_of r (get_or cs i d) m k).keys).answers;
-        left = (run r (drop (i + 1) cs) (called_of r (get_or cs i d) m k).left (called_of r (get_or cs i d) m k).keys).left;
-      }) (sym answer)
-      ∙ ap (λ x. record {
-        answers = a ∷ (run r (drop (i + 1) cs) (called_of r (get_or cs i d) m k).left x).answers;
-        left = (run r (drop (i + 1) cs) (called_of r (get_or cs i d) m k).left x).left;
-      }) (sym marks)
-      ∙ ap (λ x. record { answers = a ∷ (run r (drop (i + 1) cs) x k').answers; left = (run r (drop (i + 1) cs) x k').left }) (sym after)
-
-  pub turn_answers : done' ≡ done ++ (a ∷ []) → done ++ (run r (drop i cs) m k).answers ≡ (run r cs m₀ k₀).answers
-      → done' ++ (run r (drop (i + 1) cs) m' k').answers ≡ (run r cs m₀ k₀).answers
-  turn_answers p inv =
-      ap (λ l. l ++ (run r (drop (i + 1) cs) m' k').answers) p ∙ append_assoc done (a ∷ []) (run r (drop (i + 1) cs) m' k').answers
-      ∙ ap (λ (x : Ran M). done ++ x.answers) (sym one) ∙ inv
-
-  pub turn_left : (run r (drop i cs) m k).left ≡ (run r cs m₀ k₀).left → (run r (drop (i + 1) cs) m' k').left ≡ (run r cs m₀ k₀).left
-  turn_left inv = ap (λ (x : Ran M). x.left) (sym one) ∙ inv
-
--- at the end
-module _ {M : Type 0} (r : Rules M) (cs : List Call) (i : ℕ) (m m₀ : M) (k k₀ : List ℕ) (h : length cs ≤ i) where
-  pub end_answers : (done : List Answer) → done ++ (run r (drop i cs) m k).answers ≡ (run r cs m₀ k₀).answers → done ≡ (run r cs m₀ k₀).answers
-  end_answers done inv = sym (append-nil done) ∙ sym (at_drop_all (λ l. done ++ (run r l m k).answers) cs i h) ∙ inv
-
-  pub end_left : (run r (drop i cs) m k).left ≡ (run r cs m₀ k₀).left → m ≡ (run r cs m₀ k₀).left
-  end_left inv = sym (at_drop_all (λ l. (run r l m k).left) cs i h) ∙ inv

@@ -14,7 +14,7 @@ pub record Called (M : Type 0) : Type 0 where
 
 abbrev pub called_of : {M : Type 0} → Rules M → Call → M → List ℕ → Called M
 called_of r (Enter f) m marks = record { answer = Said (free r m f); keys = marks; left = r.enter m f }
-called_of r (Return f ref chg) m marks = record { answer = Said (free r m f); keys = marks; left = r.give_back m f ref chg }
+called_of r (Return f bits) m marks = record { answer = Said (free r m f); keys = marks; left = r.give_back m f bits.referred bits.changed }
 called_of r (Leave f) m marks = record { answer = Said (holds r m f); keys = marks; left = r.leave m f }
 called_of r (Touch f) m marks = record { answer = Done; keys = marks; left = r.touch m f }
 called_of r Empty m marks = record { answer = Done; keys = marks; left = r.clear m }
@@ -37,9 +37,9 @@ abbrev pub held_after : ℕ → Bool → Call → Answer → Bool
 held_after g was (Enter f) (Said told) = cond (g == f && told) true was
 held_after g was (Enter f) Done = was
 held_after g was (Enter f) (TookFrame o) = was
-held_after g was (Return f ref chg) (Said told) = cond (g == f && told) true was
-held_after g was (Return f ref chg) Done = was
-held_after g was (Return f ref chg) (TookFrame o) = was
+held_after g was (Return f bits) (Said told) = cond (g == f && told) true was
+held_after g was (Return f bits) Done = was
+held_after g was (Return f bits) (TookFrame o) = was
 held_after g was (Leave f) (Said told) = cond (g == f && told) false was
 held_after g was (Leave f) Done = was
 held_after g was (Leave f) (TookFrame o) = was

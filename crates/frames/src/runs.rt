@@ -5,7 +5,7 @@ use super::Policy;
 use super::calls::{Answer, Call};
 use std::alloc::{AllocError, Global};
 
-// Makes one call.
+/// Makes one call.
 pub fn make<P: Policy>(policy: &mut P, keys: &mut [u8; 256], call: Call) -> Answer
     ensures answer { result ≡ (called_of P.Policy.rules call (P.Policy.model policy.old) keys.old).answer }
     ensures marks { keys.new ≡ (called_of P.Policy.rules call (P.Policy.model policy.old) keys.old).keys }
@@ -15,12 +15,8 @@ pub fn make<P: Policy>(policy: &mut P, keys: &mut [u8; 256], call: Call) -> Answ
         Call::Enter { frame } => Answer::Said {
             yes: policy.enter(frame),
         },
-        Call::Return {
-            frame,
-            referred,
-            changed,
-        } => Answer::Said {
-            yes: policy.return_frame(frame, referred, changed),
+        Call::Return { frame, bits } => Answer::Said {
+            yes: policy.return_frame(frame, bits),
         },
         Call::Leave { frame } => Answer::Said {
             yes: policy.leave(frame),
@@ -39,8 +35,8 @@ pub fn make<P: Policy>(policy: &mut P, keys: &mut [u8; 256], call: Call) -> Answ
     }
 }
 
-// Makes the calls of a list, one after another, and gives their answers. Afterwards each frame is held at most once, and
-// it is held exactly if the answers say so.
+/// Makes the calls of a list, one after another, and gives their answers. Afterwards each frame is held at most once, and
+/// it is held exactly if the answers say so.
 pub fn play<P: Policy>(
     policy: &mut P,
     keys: &mut [u8; 256],
@@ -52,6 +48,7 @@ pub fn play<P: Policy>(
     ensures held { IfOk result (λ v. HeldAsTold P.Policy.rules (P.Policy.model policy.old) calls.now v.items (P.Policy.model policy.new)) }
 {
     let mut answers = Vec::new(heap);
+    // Not `map` and `collect`: what `collect` promises does not say what its closure leaves of policy and keys.
     for call in calls {
         let answer = make(policy, keys, *call);
         answers.push(answer)?;

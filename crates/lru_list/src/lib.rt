@@ -1,4 +1,4 @@
-// A frame policy that takes the frame whose last use is longest ago.
+//! A frame policy that takes the frame whose last use is longest ago.
 #![tactic(auto)]
 
 mod list;

@@ -3,55 +3,43 @@
 
 #[cfg(test)]
 mod tests {
-    use frames::Policy;
+    use frames::{KeyBits, Policy};
     use lru_list::LruList;
     use queues::{FiveQueues, Queue};
     use std::alloc::Global;
     use std::process::Abort;
     use std::test::*;
 
-    // Whether a queue has just these frames, the head first.
-    fn stands(
-        rt: &impl Abort,
-        heap: Global,
-        queues: &FiveQueues,
-        queue: Queue,
-        expected: &[u8],
-    ) -> Result<(), Fail> {
-        let frames = queues.frames(heap, queue)?;
-        assert_eq!(rt; frames.as_slice(), expected);
-        Ok(())
-    }
-
-    // Whether the five queues have just these frames.
+    // Whether the five queues, in the order of their names, have just these frames, the head first.
     fn stand(
         rt: &impl Abort,
         heap: Global,
         queues: &FiveQueues,
-        q00: &[u8],
-        q01: &[u8],
-        q10: &[u8],
-        q11: &[u8],
-        hq: &[u8],
+        expected: [&[u8]; 5],
     ) -> Result<(), Fail> {
-        stands(rt, heap, queues, Queue::Q00, q00)?;
-        stands(rt, heap, queues, Queue::Q01, q01)?;
-        stands(rt, heap, queues, Queue::Q10, q10)?;
-        stands(rt, heap, queues, Queue::Q11, q11)?;
-        stands(rt, heap, queues, Queue::Hq, hq)
+        for (queue, expected) in Queue::ALL.into_iter().zip(expected) {
+            let frames = queues.frames(heap, queue)?;
+            assert_eq!(rt; frames.as_slice(), expected);
+        }
+        Ok(())
+    }
+
+    // The reference and the change bit.
+    fn bits(referred: bool, changed: bool) -> KeyBits {
+        KeyBits { referred, changed }
     }
 
     // Five Takes with four turns of the names, by keys that differ from the names of the queues.
     #[test]
     fn takes_by_turns(rt: HostRuntime) -> Result<(), Fail> {
         let mut queues = FiveQueues::new();
-        assert!(rt; queues.return_frame(1, false, false));
-        assert!(rt; queues.return_frame(2, false, true));
-        assert!(rt; queues.return_frame(3, true, false));
-        assert!(rt; queues.return_frame(4, true, true));
+        assert!(rt; queues.return_frame(1, bits(false, false)));
+        assert!(rt; queues.return_frame(2, bits(false, true)));
+        assert!(rt; queues.return_frame(3, bits(true, false)));
+        assert!(rt; queues.return_frame(4, bits(true, true)));
         assert!(rt; queues.enter(5));
         assert!(rt; queues.enter(6));
-        stand(&rt, rt.alloc(), &queues, &[1], &[2], &[3], &[4], &[5, 6])?;
+        stand(&rt, rt.alloc(), &queues, [&[1], &[2], &[3], &[4], &[5, 6]])?;
         let mut keys = [0u8; 256];
         keys[1] = 6;
         keys[2] = 4;
@@ -59,18 +47,23 @@ mod tests {
         keys[5] = 4;
         keys[6] = 6;
         assert_eq!(rt; queues.take(&mut keys), Some(3));
-        stand(&rt, rt.alloc(), &queues, &[], &[4, 1, 2], &[5, 6], &[], &[])?;
+        stand(
+            &rt,
+            rt.alloc(),
+            &queues,
+            [&[], &[4, 1, 2], &[5, 6], &[], &[]],
+        )?;
         assert_eq!(rt; keys[1], 2);
         assert_eq!(rt; keys[2], 0);
         assert_eq!(rt; queues.take(&mut keys), Some(4));
         assert_eq!(rt; queues.take(&mut keys), Some(1));
-        stand(&rt, rt.alloc(), &queues, &[], &[2], &[5, 6], &[], &[])?;
+        stand(&rt, rt.alloc(), &queues, [&[], &[2], &[5, 6], &[], &[]])?;
         keys[2] = 4;
         assert_eq!(rt; queues.take(&mut keys), Some(2));
-        stand(&rt, rt.alloc(), &queues, &[], &[], &[5], &[6], &[])?;
+        stand(&rt, rt.alloc(), &queues, [&[], &[], &[5], &[6], &[]])?;
         assert_eq!(rt; keys[6], 2);
         assert_eq!(rt; queues.take(&mut keys), Some(5));
-        stand(&rt, rt.alloc(), &queues, &[], &[6], &[], &[], &[])?;
+        stand(&rt, rt.alloc(), &queues, [&[], &[6], &[], &[], &[]])?;
         assert!(rt; queues.leave(6));
         assert_eq!(rt; queues.take(&mut keys), None);
         Ok(())
@@ -80,13 +73,13 @@ mod tests {
     #[test]
     fn looks_again(rt: HostRuntime) -> Result<(), Fail> {
         let mut queues = FiveQueues::new();
-        assert!(rt; queues.return_frame(1, false, false));
-        assert!(rt; queues.return_frame(2, false, true));
+        assert!(rt; queues.return_frame(1, bits(false, false)));
+        assert!(rt; queues.return_frame(2, bits(false, true)));
         let mut keys = [0u8; 256];
         keys[1] = 2;
         keys[2] = 6;
         assert_eq!(rt; queues.take(&mut keys), Some(1));
-        stand(&rt, rt.alloc(), &queues, &[], &[], &[], &[2], &[])?;
+        stand(&rt, rt.alloc(), &queues, [&[], &[], &[], &[2], &[]])?;
         assert_eq!(rt; keys[1], 2);
         assert_eq!(rt; keys[2], 2);
         Ok(())
@@ -96,17 +89,17 @@ mod tests {
     #[test]
     fn leaves_from_the_middle(rt: HostRuntime) -> Result<(), Fail> {
         let mut queues = FiveQueues::new();
-        assert!(rt; queues.return_frame(0, false, false));
-        assert!(rt; queues.return_frame(255, false, false));
-        assert!(rt; queues.return_frame(7, false, false));
+        assert!(rt; queues.return_frame(0, bits(false, false)));
+        assert!(rt; queues.return_frame(255, bits(false, false)));
+        assert!(rt; queues.return_frame(7, bits(false, false)));
         assert!(rt; queues.leave(255));
         assert!(rt; !queues.leave(255));
         assert!(rt; !queues.enter(256));
         assert!(rt; !queues.enter(7));
         queues.touch(7);
-        stand(&rt, rt.alloc(), &queues, &[0, 7], &[], &[], &[], &[])?;
+        stand(&rt, rt.alloc(), &queues, [&[0, 7], &[], &[], &[], &[]])?;
         assert!(rt; queues.enter(255));
-        stand(&rt, rt.alloc(), &queues, &[0, 7], &[], &[], &[], &[255])
+        stand(&rt, rt.alloc(), &queues, [&[0, 7], &[], &[], &[], &[255]])
     }
 
     // Touch of a held frame puts it last, and Take gives the first and keeps the keys.
@@ -114,7 +107,7 @@ mod tests {
     fn takes_the_least_recent(rt: HostRuntime) -> Result<(), Fail> {
         let mut list = LruList::new();
         assert!(rt; list.enter(9));
-        assert!(rt; list.return_frame(3, true, true));
+        assert!(rt; list.return_frame(3, bits(true, true)));
         assert!(rt; list.enter(0));
         list.touch(9);
         list.touch(4);

@@ -1,7 +1,6 @@
 pub mod Links
 pub mod Five
 pub mod Names
-pub mod Model
 pub mod Laws
 pub mod Lawful
 pub mod Weight

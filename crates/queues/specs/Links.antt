@@ -1,6 +1,6 @@
 -- Queues of frames, linked both ways. A node is a frame, 0 to 255, or the end mark 256 + q of the queue q. From its end
 -- mark the links of a queue lead through its frames, in order, to the end mark again.
-use Rattle.std.specs.Prelude.{◌≡◌, ℕ, zero, suc, ◌+◌, ◌<◌, ◌≤◌, cond, List, [], ◌∷◌, ◌++◌, length, ◌==◌, nat_lt, slice_index, slice_index_or}
+use Rattle.std.specs.Prelude.{◌≡◌, ℕ, zero, suc, ◌+◌, ◌<◌, ◌≤◌, cond, List, [], ◌∷◌, ◌++◌, length, map, Some, None, Option, IfSome, ◌==◌, nat_lt, slice_index, slice_index_or}
 use Rattle.frames.specs.Held.{times_in}
 
 -- the frames from a node on, up to an end mark, and at most n of them
@@ -29,3 +29,21 @@ Forward next = (q i : ℕ) → (q < 5) × (i ≤ length (list_of next q))
 abbrev pub Backward : List ℕ → List ℕ → Type 0
 Backward next prev = (q i : ℕ) → (q < 5) × (i ≤ length (list_of next q))
     → slice_index prev (node_at (list_of next q) q (suc i)) ≡ node_at (list_of next q) q i
+
+-- the number of the queue in which a frame stands, or 5 for a frame in none
+abbrev pub number_in : Option ℕ → ℕ
+number_in None = 5
+number_in (Some q) = q
+
+-- What is true of the links from node to node, the links back, the queue of each frame, and the number of the queue that is
+-- Q00 at present.
+pub record IsLinked (next prev : List ℕ) (place : List (Option ℕ)) (first : ℕ) : Type 0 where
+  pub next_long : length next ≡ 261
+  pub prev_long : length prev ≡ 261
+  pub long : length place ≡ 256
+  pub named : first < 5
+  -- a frame's queue is one of the five
+  pub of_five : (f : ℕ) → IfSome (slice_index_or place f None) (λ q. q < 5)
+  pub placed : Placed next (map number_in place)
+  pub forward : Forward next
+  pub backward : Backward next prev

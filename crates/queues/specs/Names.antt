@@ -1,5 +1,5 @@
 -- The names of the five queues. The queues have numbers, 0 to 4; the names go round them.
-use Rattle.std.specs.Prelude.{ℕ, ◌+◌, ◌%◌, List, [], ◌∷◌, Some, None, Option}
+use Rattle.std.specs.Prelude.{ℕ, ◌+◌, ◌%◌, List, [], ◌∷◌, Some, None, Option, codes}
 use Rattle.queues.specs.declared.queue.Queue.{Queue}
 use Rattle.queues.specs.declared.queue.Queue.TheVariants.{Q00, Q01, Q10, Q11, Hq}
 use Rattle.queues.specs.Five.{Five}
@@ -11,6 +11,14 @@ number_of Q01 = 1
 number_of Q10 = 2
 number_of Q11 = 3
 number_of Hq = 4
+
+-- the names as they are printed
+abbrev pub name_of : Queue → List ℕ
+name_of Q00 = codes "Q00"
+name_of Q01 = codes "Q01"
+name_of Q10 = codes "Q10"
+name_of Q11 = codes "Q11"
+name_of Hq = codes "HQ"
 
 -- the frames of the queue with a name
 abbrev pub frames_of : Five → Queue → List ℕ

@@ -249,7 +249,7 @@ own_mark (suc (suc (suc (suc (suc q))))) h = absurd (omega arith)
 fresh_mark : (n q : ℕ) (ends : List ℕ) → slice_index (replicate n 0 ++ ends) (n + q) ≡ slice_index ends q
 fresh_mark n q ends = ap (λ k. slice_index (replicate n 0 ++ ends) (k + q)) (sym (length-replicate n 0)) ∙ get_or-append-add (replicate n 0) ends q 0
 
-nowhere : (n d f : ℕ) → slice_index_or (replicate n d) f d ≡ d
+pub nowhere : {A : Type 0} (n : ℕ) (d : A) (f : ℕ) → slice_index_or (replicate n d) f d ≡ d
 nowhere n d f = elim (cases_lt f n) [ inl h ↦ get_or-replicate n f d d h | inr h ↦ get_or_past (replicate n d) f d (omega (arith, length-replicate n d)) ]
 
 -- links that lead from each end mark to itself, and frames that stand nowhere
@@ -299,7 +299,7 @@ named_at lists first Q11 = refl
 named_at lists first Hq = refl
 
 module _ (next : List ℕ) (first node : ℕ) (queue : Queue) (is : node ≡ slice_index next (256 + (first + number_of queue) % 5)) where
-  head_is : head_of (frames_of (named (list_of next) first) queue) ≡ cond (nat_lt node 256) (Some node) None
+  pub head_is : head_of (frames_of (named (list_of next) first) queue) ≡ cond (nat_lt node 256) (Some node) None
   head_is = ap head_of (named_at (list_of next) first queue) ∙ ap (λ k. head_of (walk 256 next k)) (sym is) ∙ walk_head 255 next node
 
   pub head_some : node < 256 → Some node ≡ head_of (frames_of (named (list_of next) first) queue)

@@ -28,6 +28,10 @@ refused m x f e = sym (cond-false (free_in m f) x m (sym e))
 pub small_free : (m : Five) (f : ℕ) → f < 256 → (times_held m f == 0) ≡ free_in m f
 small_free m f h = ap (λ b. b && times_held m f == 0) (sym (lt-ltb f 256 h))
 
+-- a frame up to 255 that is linked in where it is not held is entered
+pub linked_entered : (m x m' : Five) (f : ℕ) → f < 256 → m' ≡ cond (times_held m f == 0) x m → m' ≡ cond (free_in m f) x m
+linked_entered m x m' f h e = e ∙ ap (λ b. cond b x m) (small_free m f h)
+
 module _ (m : Five) (f : ℕ) (good : Good m) (h : 255 < f) where
   pub big_held : false ≡ holds five_rules m f
   big_held = sym (ne_eqb _ _ (λ e. let z = (good f).1 (omega arith) in omega arith))

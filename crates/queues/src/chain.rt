@@ -1,20 +1,31 @@
-ghost use Rattle.std.specs.Prelude.{◌≡◌, ◌<◌, [], ◌∷◌, ◌++◌, length, replicate, slice_index, slice_set};
+ghost use Rattle.std.specs.Prelude.{◌≡◌, [], ◌∷◌, ◌++◌, replicate, slice_index, slice_set};
 
-// Links from node to node, one way. A node is a frame, 0 to 255, or the end mark of a queue, 256 to 260.
+use std::marker::Model;
+
+/// Links from node to node, one way. A node is a frame, 0 to 255, or the end mark of a queue, 256 to 260. Clauses see where
+/// the link of each node leads, as one list.
 #[derive(Drop)]
 pub struct Chain {
-    // where the link of each frame leads
+    // where the link of each frame leads; the rules ask for an array of 256 links
     frames: [u16; 256],
     // and that of each end mark
     ends: [u16; 5],
-    ghost long: { length frames ≡ 256 },
-    ghost five: { length ends ≡ 5 },
+}
+
+impl Model for Chain {
+    ghost use Rattle.std.specs.Prelude.{◌≡◌, ℕ, List, ◌++◌, length};
+
+    ghost Value = { List ℕ };
+
+    ghost view = { λ c. c.frames ++ c.ends };
+
+    ghost invariant = { λ c. (length c.frames ≡ 256) × (length c.ends ≡ 5) };
 }
 
 impl Chain {
-    // Each end mark is linked to itself.
+    /// Each end mark is linked to itself.
     pub fn new() -> Chain
-        ensures { result.frames ++ result.ends ≡ replicate 256 0 ++ (256 ∷ (257 ∷ (258 ∷ (259 ∷ (260 ∷ []))))) }
+        ensures { result ≡ replicate 256 0 ++ (256 ∷ (257 ∷ (258 ∷ (259 ∷ (260 ∷ []))))) }
     {
         Chain {
             frames: [0; 256],
@@ -22,9 +33,9 @@ impl Chain {
         }
     }
 
-    // Where the link of a node leads.
+    /// Where the link of a node leads.
     pub fn follow(&self, node: u16) -> u16
-        ensures { result ≡ slice_index (self.now.frames ++ self.now.ends) node }
+        ensures { result ≡ slice_index self.now node }
     {
         if node < 256 {
             self.frames[node as usize]
@@ -35,9 +46,9 @@ impl Chain {
         }
     }
 
-    // The link of a node leads to another from now on. A number that is no node changes nothing.
+    /// The link of a node leads to another from now on. A number that is no node changes nothing.
     pub fn lead(&mut self, node: u16, to: u16)
-        ensures { self.new.frames ++ self.new.ends ≡ slice_set (self.old.frames ++ self.old.ends) node to }
+        ensures { self.new ≡ slice_set self.old node to }
     {
         if node < 256 {
             self.frames[node as usize] = to;

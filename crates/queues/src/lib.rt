@@ -1,9 +1,9 @@
-// The frame policy of five queues.
+//! The frame policy of five queues.
 #![tactic(auto)]
 
 mod chain;
 mod five;
-mod moves;
+mod linked;
 mod policy;
 mod queue;
 

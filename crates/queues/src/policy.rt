@@ -1,55 +1,40 @@
-ghost use Rattle.std.specs.Prelude.{◌≡◌, ◌++◌};
-ghost use Rattle.queues.specs.Five.{Five, five_rules, queue_for};
-ghost use Rattle.queues.specs.Model.{model_of};
+ghost use Rattle.queues.specs.Five.{Five, five_rules};
 ghost use Rattle.queues.specs.Lawful.{five_lawful};
-ghost use Rattle.queues.specs.Played.{good_of};
 
 use super::five::FiveQueues;
 use super::queue::Queue;
-use frames::Policy;
-
-// Q with these reference and change bits.
-fn queue_for(referred: bool, changed: bool) -> Queue
-    ensures { result ≡ queue_for referred changed }
-{
-    match (referred, changed) {
-        (false, false) => Queue::Q00,
-        (false, true) => Queue::Q01,
-        (true, false) => Queue::Q10,
-        (true, true) => Queue::Q11,
-    }
-}
+use frames::{KeyBits, Policy};
 
 impl Policy for FiveQueues {
     ghost Model = { Five };
 
-    ghost model = { λ x. model_of x };
+    ghost model = { λ x. x.queues };
 
     ghost rules = { five_rules };
 
     ghost lawful = { five_lawful };
 
-    ghost valid = { λ x. good_of (x.next.frames ++ x.next.ends) x.place x.first x.long x.named x.placed };
+    ghost valid = { λ x. x.good };
 
     fn enter(&mut self, frame: u16) -> bool {
-        if frame > 255 {
+        let Ok(frame) = u8::try_from(frame) else {
             return false;
-        }
-        self.link(Queue::Hq, frame as u8)
+        };
+        self.queues.link(Queue::Hq, frame)
     }
 
-    fn return_frame(&mut self, frame: u16, referred: bool, changed: bool) -> bool {
-        if frame > 255 {
+    fn return_frame(&mut self, frame: u16, bits: KeyBits) -> bool {
+        let Ok(frame) = u8::try_from(frame) else {
             return false;
-        }
-        self.link(queue_for(referred, changed), frame as u8)
+        };
+        self.queues.link(Queue::from(bits), frame)
     }
 
     fn leave(&mut self, frame: u16) -> bool {
-        if frame > 255 {
+        let Ok(frame) = u8::try_from(frame) else {
             return false;
-        }
-        self.unlink(frame as u8)
+        };
+        self.queues.unlink(frame)
     }
 
     fn touch(&mut self, _frame: u16) {}

@@ -7,7 +7,7 @@ mod player;
 ghost use Rattle.std.specs.Prelude.{◌≡◌, replicate};
 ghost use Rattle.references.specs.Reference.{returned};
 
-use frames::Policy;
+use frames::{KeyBits, Policy};
 use lru_list::LruList;
 use player::Player;
 use queues::{FiveQueues, Queue};
@@ -18,8 +18,12 @@ fn filled<P: Policy>(mut policy: P) -> Player<P>
     ensures marks { result.keys ≡ replicate 256 0 }
     ensures pages { result.pages ≡ replicate 256 0 }
 {
+    let off = KeyBits {
+        referred: false,
+        changed: false,
+    };
     for frame in 1u16..5 {
-        policy.return_frame(frame, false, false);
+        policy.return_frame(frame, off);
     }
     Player {
         policy,
@@ -29,8 +33,8 @@ fn filled<P: Policy>(mut policy: P) -> Player<P>
 }
 
 // Prints the frames of a queue after its name.
-fn show(rt: &HostRuntime, queues: &FiveQueues, queue: Queue, name: &str) -> anyhow::Result<()> {
-    print!(rt; " {name}")?;
+fn show(rt: &HostRuntime, queues: &FiveQueues, queue: Queue) -> anyhow::Result<()> {
+    print!(rt; " {queue}")?;
     let frames = queues.frames(rt.alloc(), queue)?;
     for frame in &frames {
         print!(rt; " {frame}")?;
@@ -40,8 +44,8 @@ fn show(rt: &HostRuntime, queues: &FiveQueues, queue: Queue, name: &str) -> anyh
 
 // Plays one string of references to pages.
 fn play(rt: &HostRuntime, pages: &[u8]) -> anyhow::Result<()> {
-    let mut list = filled::<LruList>(LruList::new());
-    let mut queues = filled::<FiveQueues>(FiveQueues::new());
+    let mut list = filled(LruList::new());
+    let mut queues = filled(FiveQueues::new());
     for page in pages {
         list.refer(*page);
         queues.refer(*page);
@@ -50,11 +54,9 @@ fn play(rt: &HostRuntime, pages: &[u8]) -> anyhow::Result<()> {
             print!(rt; " {frame}")?;
         }
         print!(rt; ";")?;
-        show(rt, &queues.policy, Queue::Q00, "Q00")?;
-        show(rt, &queues.policy, Queue::Q01, "Q01")?;
-        show(rt, &queues.policy, Queue::Q10, "Q10")?;
-        show(rt, &queues.policy, Queue::Q11, "Q11")?;
-        show(rt, &queues.policy, Queue::Hq, "HQ")?;
+        for queue in Queue::ALL {
+            show(rt, &queues.policy, queue)?;
+        }
         println!(rt; "")?;
     }
     Ok(())

@@ -7,7 +7,9 @@ use frames::Policy;
 #[derive(Drop)]
 pub struct Player<P> {
     pub policy: P,
+    // an array of their own, which Take is handed
     pub keys: [u8; 256],
+    // numbers and no `Option`: a reference to page 0 finds a frame that has none, which is what `refer` promises
     pub pages: [u8; 256],
 }
 
@@ -18,19 +20,13 @@ impl<P: Policy> Player<P> {
         ensures marks { self.new.keys ≡ (referred_to P.Policy.rules page (P.Policy.model self.old.policy) self.old.keys self.old.pages).marks }
         ensures pages { self.new.pages ≡ (referred_to P.Policy.rules page (P.Policy.model self.old.policy) self.old.keys self.old.pages).pages }
     {
-        match recency::find(&self.pages, page as u32) {
-            Some(frame) => {
-                self.policy.touch(frame as u16);
-                self.keys[frame] = frames::reference_on(self.keys[frame]);
-            }
-            None => match self.policy.take(&mut self.keys) {
-                Some(frame) => {
-                    self.pages[frame as usize] = page;
-                    self.policy.enter(frame as u16);
-                    self.keys[frame as usize] = frames::reference_on(0);
-                }
-                None => {}
-            },
+        if let Some(frame) = recency::find(&self.pages, page as u32) {
+            self.policy.touch(frame as u16);
+            self.keys[frame] = frames::reference_on(self.keys[frame]);
+        } else if let Some(frame) = self.policy.take(&mut self.keys) {
+            self.pages[frame as usize] = page;
+            self.policy.enter(frame as u16);
+            self.keys[frame as usize] = frames::reference_on(0);
         }
     }
 }

@@ -1,12 +1,8 @@
-use Rattle.std.proofs.Common.{arith}
-use Rattle.queues.proofs.Chains.{led_frame, led_end, led_none}
+use Rattle.std.proofs.Common.{set, sym, ap, ◌∙◌, arith}
+use Rattle.std.proofs.lemmas.List.{set-append_right}
 use Rattle.queues.proofs.chain.Chain.lead.Goals as goal
 
-pub returns-then-node-lt256 : goal.returns-then-node-lt256
-returns-then-node-lt256 c = let s = c.args.self.now in led_frame s.frames s.ends s.long s.five c.args.node c.args.to (omega arith)
-
 pub returns-then-node-lt261 : goal.returns-then-node-lt261
-returns-then-node-lt261 c = let s = c.args.self.now in led_end s.frames s.ends s.long s.five c.args.node c.args.to (omega arith)
-
-pub returns-else-node-lt261 : goal.returns-else-node-lt261
-returns-else-node-lt261 c = let s = c.args.self.now in led_none s.frames s.ends s.long s.five c.args.node c.args.to (omega arith)
+returns-then-node-lt261 c =
+    let s = c.self.inside in
+    sym (set-append_right s.frames s.ends 256 c.args.node c.args.to c.self.invariant.0 (omega arith)) ∙ ap (λ l. set l c.args.node c.args.to) c.self.view_is

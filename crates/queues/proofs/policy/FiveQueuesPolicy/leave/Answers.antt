@@ -1,13 +1,13 @@
-use Rattle.std.proofs.Common.{◌++◌, arith}
-use Rattle.queues.specs.Model.{model_of}
-use Rattle.queues.specs.Played.{good_of, big_held, big_left}
+use Rattle.std.proofs.Common.{sym, subst, arith}
+use Rattle.queues.specs.Five.{Good}
+use Rattle.queues.specs.Lawful.{five_lawful}
+use Rattle.queues.specs.Played.{big_left}
 use Rattle.queues.proofs.policy.FiveQueuesPolicy.leave.Goals as goal
 
-pub returns-then-frame-gt255 : goal.returns-then-frame-gt255
-returns-then-frame-gt255 c =
+pub returns-in_default-clause-after : goal.returns-in_default-clause-after
+returns-in_default-clause-after c = let s = c.args.self.now in big_left s.queues c.args.frame s.good (omega (arith, c.in_default.ensures))
+
+pub invariant_of-self : goal.invariant_of-self
+invariant_of-self c =
     let s = c.args.self.now in
-    let good = good_of (s.next.frames ++ s.next.ends) s.place s.first s.long s.named s.placed in
-    record {
-      answer = big_held (model_of s) c.args.frame good (omega arith);
-      after = big_left (model_of s) c.args.frame good (omega arith);
-    }
+    record { good = subst Good (sym c.unlink.ensures.after) (five_lawful.leave_good s.queues c.in-Ok.frame s.good) }
