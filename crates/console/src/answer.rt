@@ -1,20 +1,77 @@
 //! The answers to commands, as they are printed.
+ghost use Rattle.std.specs.Prelude.{◌≡◌};
+ghost use Rattle.console.specs.Refusals.{number_of};
+ghost use Rattle.console.specs.declared.answer.Refusal.TheVariants as Why;
+
+use dataset::mark::Mark;
+use dataset::refusal::{MarkRefusal, OpenRefusal};
+use pages::fault::StoreRefusal;
 use script::verb::Verb;
 use std::fmt;
 
+/// Why a command was refused.
+#[derive(Clone, Copy, Debug, PartialEq, Eq)]
+pub enum Refusal {
+    /// Not all of the bytes are in main storage, or the walk of the tables is refused.
+    Walk(tables::Refusal),
+    /// The page store refuses the slot.
+    Store(StoreRefusal),
+    /// The area is no page data set.
+    Open(OpenRefusal),
+}
+
+impl Refusal {
+    /// The number under which an operator knows the refusal.
+    pub fn number(self) -> u8
+        ensures { result ≡ number_of self }
+    {
+        // A `match`: each case hands on the number of what it carries.
+        match self {
+            Refusal::Walk(why) => why.number(),
+            Refusal::Store(why) => why.number(),
+            Refusal::Open(why) => why.number(),
+        }
+    }
+}
+
+impl From<tables::Refusal> for Refusal {
+    ghost from_gives = { λ why r. r ≡ Why.Walk why };
+
+    fn from(why: tables::Refusal) -> Refusal {
+        Refusal::Walk(why)
+    }
+}
+
+impl From<StoreRefusal> for Refusal {
+    ghost from_gives = { λ why r. r ≡ Why.Store why };
+
+    fn from(why: StoreRefusal) -> Refusal {
+        Refusal::Store(why)
+    }
+}
+
+impl From<OpenRefusal> for Refusal {
+    ghost from_gives = { λ why r. r ≡ Why.Open why };
+
+    fn from(why: OpenRefusal) -> Refusal {
+        Refusal::Open(why)
+    }
+}
+
 /// What the console says to a command that it could carry out.
-#[derive(Drop)]
+// A variant for each line that is printed: so a refusal is a variant too, and no `Result` stands for it.
+#[derive(Debug, PartialEq, Eq, Drop)]
 pub enum Answer {
     /// The commands.
     Help,
     /// The command was done.
     Done(Verb),
-    /// The command was refused, with this number.
-    Refused(Verb, u8),
+    /// The command was refused, and why.
+    Refused(Verb, Refusal),
     /// The data set was opened again.
     Opened,
-    /// The data set was not opened again, by this number.
-    NotOpened(u8),
+    /// The data set was not opened again, and why.
+    NotOpened(MarkRefusal),
     /// Bytes of main storage: their address, and their digits.
     Bytes(u32, String),
     /// A real address.
@@ -22,7 +79,7 @@ pub enum Answer {
     /// The digits of both control words.
     Words(String, String),
     /// A slot: its number, the digits of its digest, and its mark where it has one.
-    Page(u32, String, Option<u8>),
+    Page(u32, String, Option<Mark>),
 }
 
 /// The commands, a line each.
@@ -46,13 +103,15 @@ impl fmt::Display for Answer {
         match self {
             Answer::Help => f.write_str(HELP),
             Answer::Done(verb) => write!(f, "{verb} done"),
-            Answer::Refused(verb, number) => write!(f, "{verb} refused {number}"),
+            Answer::Refused(verb, why) => write!(f, "{verb} refused {}", why.number()),
             Answer::Opened => f.write_str("OPEN done"),
-            Answer::NotOpened(number) => write!(f, "OPEN refused {number}"),
+            Answer::NotOpened(why) => write!(f, "OPEN refused {}", why.number()),
             Answer::Bytes(address, digits) => bytes(f, *address, digits),
             Answer::Real(address) => write!(f, "WALK {address}"),
             Answer::Words(cr0, cr1) => write!(f, "CONTROLS X'{cr0}' X'{cr1}'"),
-            Answer::Page(slot, digest, Some(mark)) => write!(f, "SLOT {slot} {digest} {mark}"),
+            Answer::Page(slot, digest, Some(mark)) => {
+                write!(f, "SLOT {slot} {digest} {}", mark.number())
+            }
             Answer::Page(slot, digest, None) => write!(f, "SLOT {slot} {digest} -"),
         }
     }

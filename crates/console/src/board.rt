@@ -20,6 +20,7 @@ use storage::PAGE;
 use tables::{Controls, Refusal, walk};
 
 /// What WIRE makes. The machine is not started yet, so both control words are zero.
+// It has no model: a clause says of each part whether a command changes it.
 #[derive(Drop)]
 pub struct Board {
     policy: Policy,
@@ -51,7 +52,7 @@ impl Board {
     {
         match self.store.refusal() {
             None => Answer::Done(Verb::Wire),
-            Some(number) => Answer::Refused(Verb::Wire, number),
+            Some(why) => Answer::Refused(Verb::Wire, why.into()),
         }
     }
 
@@ -70,7 +71,7 @@ impl Board {
     {
         match displayed(&self.storage, address as usize, count as usize) {
             Some(bytes) => Ok(Answer::Bytes(address, hex_text(heap, bytes)?)),
-            None => Ok(Answer::Refused(Verb::Display, Refusal::Addressing.number())),
+            None => Ok(Answer::Refused(Verb::Display, Refusal::Addressing.into())),
         }
     }
 
@@ -83,7 +84,7 @@ impl Board {
         if altered(&mut self.storage, address as usize, bytes) {
             Answer::Done(Verb::Alter)
         } else {
-            Answer::Refused(Verb::Alter, Refusal::Addressing.number())
+            Answer::Refused(Verb::Alter, Refusal::Addressing.into())
         }
     }
 
@@ -94,7 +95,7 @@ impl Board {
         let words = controls.unwrap_or(self.controls);
         match walk(&self.storage, words, address) {
             Ok(real) => Answer::Real(real),
-            Err(why) => Answer::Refused(Verb::Walk, why.number()),
+            Err(why) => Answer::Refused(Verb::Walk, why.into()),
         }
     }
 
@@ -117,7 +118,7 @@ impl Board {
                 let digest = digest_text(heap, &page)?;
                 Ok(Answer::Page(slot, digest, self.store.mark(slot)))
             }
-            Err(fault) => Ok(Answer::Refused(Verb::Slot, fault.refusal.number())),
+            Err(fault) => Ok(Answer::Refused(Verb::Slot, fault.refusal.into())),
         }
     }
 
@@ -132,7 +133,7 @@ impl Board {
         };
         match set.mark_bad(slot) {
             Ok(()) => Ok(Answer::Done(Verb::Bad)),
-            Err(fault) => Ok(Answer::Refused(Verb::Bad, fault.refusal.number())),
+            Err(fault) => Ok(Answer::Refused(Verb::Bad, fault.refusal.into())),
         }
     }
 
@@ -147,7 +148,7 @@ impl Board {
         };
         match set.set_mark(slot, value) {
             Ok(()) => Ok(Answer::Opened),
-            Err(why) => Ok(Answer::NotOpened(why.number())),
+            Err(why) => Ok(Answer::NotOpened(why)),
         }
     }
 

@@ -1,18 +1,22 @@
 //! The page store of a board, of either kind.
 ghost use Rattle.std.specs.Prelude.{◌≡◌, ◌*◌, ◌≤◌, length, replicate, IfOk};
 ghost use Rattle.pages.specs.Store.{read_into, refusal_at, told};
+ghost use Rattle.std.specs.Option.{option_map};
 ghost use Rattle.dataset.specs.Format.{blank_set};
+ghost use Rattle.dataset.specs.Marks.{number_of as number_of_mark};
 ghost use Rattle.console.specs.Stores.{area_of, IsPlain, IsSet, mark_in, refusal_in, rules_of};
 
 use area::PlainArea;
 use dataset::data_set::DataSet;
-use dataset::refusal::BlankRefusal;
+use dataset::mark::Mark;
+use dataset::refusal::{BlankRefusal, OpenRefusal};
 use pages::fault::Fault;
 use pages::store::PageStore;
 use std::alloc::{AllocError, Global};
-use storage::{PAGE, put_word};
+use storage::{Number, PAGE};
 
 /// A page store.
+// An enum cannot have a model, and a struct round this one would hide nothing: so its clauses cite `area_of`.
 #[derive(Drop)]
 pub enum Store {
     Plain(PlainArea),
@@ -37,8 +41,8 @@ impl Store {
             Err(BlankRefusal::NoMemory) => Err(AllocError),
             Err(BlankRefusal::TooManySlots) => {
                 let mut front = vec![in heap; 0u8; 8]?;
-                put_word(&mut front, 0, slots);
-                put_word(&mut front, 4, PAGE as u32);
+                slots.write(&mut front, 0);
+                (PAGE as u32).write(&mut front, 4);
                 Ok(Store::opened(front))
             }
         }
@@ -51,16 +55,13 @@ impl Store {
         Store::Set(DataSet::open(area))
     }
 
-    /// The number by which opening was refused, if it was.
-    pub fn refusal(&self) -> Option<u8>
+    /// Why opening was refused, if it was.
+    pub fn refusal(&self) -> Option<OpenRefusal>
         ensures { result ≡ refusal_in self.now }
     {
         match self {
             Store::Plain(_) => None,
-            Store::Set(set) => match set.refusal() {
-                None => None,
-                Some(why) => Some(why.number()),
-            },
+            Store::Set(set) => set.refusal(),
         }
     }
 
@@ -76,8 +77,8 @@ impl Store {
     }
 
     /// The mark of a slot, in a data set that has the slot.
-    pub fn mark(&self, slot: u32) -> Option<u8>
-        ensures { result ≡ mark_in self.now slot }
+    pub fn mark(&self, slot: u32) -> Option<Mark>
+        ensures { option_map number_of_mark result ≡ mark_in self.now slot }
     {
         match self {
             Store::Plain(_) => None,

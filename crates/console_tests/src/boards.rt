@@ -20,6 +20,6 @@ fn storage_at_its_edges(rt: HostRuntime) -> Result<(), Fail> {
     assert!(rt; displayed(&storage, 4, 1).is_none());
     assert!(rt; displayed(&storage, 4, 0).is_some());
     let text = hex_text(rt.alloc(), &storage)?;
-    assert!(rt; text.as_str() == "0000ABCD");
+    assert_eq!(rt; text.as_str(), "0000ABCD");
     Ok(())
 }

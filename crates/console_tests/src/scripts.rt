@@ -5,10 +5,10 @@ use script::wrong::Wrong;
 
 #[test]
 fn numbers_that_fit(rt: HostRuntime) {
-    assert!(rt; matches!(number(b"0", 0), Ok(0)));
-    assert!(rt; matches!(number(b"4294967295", u32::MAX), Ok(u32::MAX)));
-    assert!(rt; matches!(number(b"X'ffFF'", 65_535), Ok(65_535)));
-    assert!(rt; matches!(number(b"X'000000000000000000FF'", 255), Ok(255)));
+    assert_eq!(rt; number(b"0", 0), Ok(0));
+    assert_eq!(rt; number(b"4294967295", u32::MAX), Ok(u32::MAX));
+    assert_eq!(rt; number(b"X'ffFF'", 65_535), Ok(65_535));
+    assert_eq!(rt; number(b"X'000000000000000000FF'", 255), Ok(255));
 }
 
 #[test]
@@ -23,14 +23,12 @@ fn numbers_that_do_not_fit(rt: HostRuntime) {
 #[test]
 fn lines(rt: HostRuntime) {
     let heap = rt.alloc();
-    assert!(rt; matches!(parse(heap, b"  # a comment"), Ok(None)));
-    assert!(rt;
-        matches!(
-            parse(heap, b"\tSLOT X'10'#10\r\n"),
-            Ok(Some(Command::Slot(16)))
-        )
+    assert_eq!(rt; parse(heap, b"  # a comment"), Ok(None));
+    assert_eq!(rt;
+        parse(heap, b"\tSLOT X'10'#10\r\n"),
+        Ok(Some(Command::Slot(16)))
     );
-    assert!(rt; matches!(parse(heap, b"SLOT \xff"), Err(Wrong::NotText)));
-    assert!(rt; matches!(parse(heap, b"FIX 8"), Err(Wrong::NoMachine)));
-    assert!(rt; matches!(parse(heap, b"slot 8"), Err(Wrong::NoCommand)));
+    assert_eq!(rt; parse(heap, b"SLOT \xff"), Err(Wrong::NotText));
+    assert_eq!(rt; parse(heap, b"FIX 8"), Err(Wrong::NoMachine));
+    assert_eq!(rt; parse(heap, b"slot 8"), Err(Wrong::NoCommand));
 }

@@ -4,16 +4,11 @@ ghost use Rattle.std.specs.Option.{option_map};
 ghost use Rattle.storage.specs.Bytes.{fits};
 ghost use Rattle.listing.specs.Memory.{Altered, bytes_at};
 
-use storage::holds;
-
 /// The `count` bytes at `at`, or none where not all of them are in storage.
 pub fn displayed(storage: &[u8], at: usize, count: usize) -> Option<&[u8]>
     ensures { option_map (λ x. x.now) result ≡ (if fits count storage.now at then Some (bytes_at storage.now at count) else None) }
 {
-    if !holds(storage, at, count) {
-        return None;
-    }
-    Some(&storage[at..at + count])
+    storage::bytes(storage, at, count)
 }
 
 /// Puts bytes at `at`; false, and storage as it was, where not all of them would be in storage.
@@ -21,10 +16,5 @@ pub fn altered(storage: &mut [u8], at: usize, bytes: &[u8]) -> bool
     ensures answer { result ≡ fits (length bytes.now) storage.old at }
     ensures after { MatchBool result (Altered storage.old at bytes.now storage.new) (storage.new ≡ storage.old) }
 {
-    if !holds(storage, at, bytes.len()) {
-        return false;
-    }
-    let part = &mut storage[at..at + bytes.len()];
-    part.copy_from_slice(bytes);
-    true
+    storage::put_bytes(storage, at, bytes)
 }

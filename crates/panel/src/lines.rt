@@ -22,10 +22,10 @@ impl Console {
 
     /// Carries a line out. A line with no words has no answer; one that is wrong changes nothing.
     pub fn obey(&mut self, rt: &HostRuntime, line: &[u8]) -> Result<Option<Answer>, Wrong> {
-        match parse(rt.alloc(), line)? {
-            None => Ok(None),
-            Some(command) => Ok(Some(self.carry_out(rt, command)?)),
-        }
+        let Some(command) = parse(rt.alloc(), line)? else {
+            return Ok(None);
+        };
+        self.carry_out(rt, command).map(Some)
     }
 
     // Carries a command out.
@@ -34,10 +34,7 @@ impl Console {
             Command::Help => Ok(Answer::Help),
             Command::Wire(wiring) => self.wire(rt, wiring),
             other => {
-                let verb = other.verb();
-                let Some(board) = &mut self.board else {
-                    return Err(Wrong::NotWired(verb));
-                };
+                let board = self.board.as_mut().ok_or(Wrong::NotWired(other.verb()))?;
                 work(rt, board, other)
             }
         }
@@ -58,19 +55,16 @@ fn store_from(rt: &HostRuntime, source: &Source) -> Result<Store, Wrong> {
     match source {
         Source::Plain(slots) => Ok(Store::plain(rt.alloc(), *slots)?),
         Source::Blank(slots) => Ok(Store::blank(rt.alloc(), *slots)?),
-        Source::File(path) => match fs::read(rt, path.as_str()) {
-            Ok(area) => Ok(Store::opened(area)),
-            Err(_) => Err(Wrong::Unreadable),
-        },
+        Source::File(path) => fs::read(rt, path.as_str())
+            .map(Store::opened)
+            .map_err(|_| Wrong::Unreadable),
     }
 }
 
 // Puts the area of the store into a file.
 fn save(rt: &HostRuntime, board: &Board, path: &str) -> Result<Answer, Wrong> {
-    match fs::write(rt, path, board.saved()) {
-        Ok(()) => Ok(Answer::Done(Verb::Save)),
-        Err(_) => Err(Wrong::Unwritable),
-    }
+    fs::write(rt, path, board.saved()).map_err(|_| Wrong::Unwritable)?;
+    Ok(Answer::Done(Verb::Save))
 }
 
 // Carries a command out on a board.

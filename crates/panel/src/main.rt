@@ -24,29 +24,6 @@ fn complain(rt: &HostRuntime, number: u64, wrong: Wrong) -> io::Result<()> {
     println!(rt; "ERROR line {number}: {wrong}")
 }
 
-// How many bytes go to the end of the line, and whether it ends there: after a line feed, or where no bytes are left.
-fn line_end(held: &[u8]) -> (usize, bool) {
-    for (i, c) in held.iter().enumerate() {
-        if *c == b'\n' {
-            return (i + 1, true);
-        }
-    }
-    (held.len(), held.is_empty())
-}
-
-// Passes over the rest of a line.
-fn skip_line<R: BufRead>(script: &mut R) -> io::Result<()> {
-    for _ in 0..u64::MAX {
-        let held = script.fill_buf()?;
-        let (passed, ended) = line_end(held);
-        script.consume(passed);
-        if ended {
-            break;
-        }
-    }
-    Ok(())
-}
-
 // Works a script, line by line, to its end. A line that finds no memory is wrong like any other.
 fn work<R: BufRead + Drop>(rt: &HostRuntime, mut script: R) -> io::Result<()> {
     let mut console = Console::new();
@@ -59,7 +36,7 @@ fn work<R: BufRead + Drop>(rt: &HostRuntime, mut script: R) -> io::Result<()> {
             }
             Err(e) if e.kind() == io::ErrorKind::OutOfMemory => {
                 let _ = complain(rt, number, Wrong::Memory);
-                skip_line(&mut script)?;
+                script.skip_until(b'\n')?;
             }
             Err(_) => return complain(rt, number, Wrong::Unreadable),
         }

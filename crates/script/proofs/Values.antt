@@ -1,8 +1,14 @@
 -- Values of digits that stop at 2 ^ 32.
 use Rattle.std.proofs.Common.{◌≡◌, ℕ, ◌+◌, ◌*◌, ◌^◌, ◌<◌, ◌≤◌, min, List, length, get_or, take, sym, refl, ap, ◌∙◌, ⊎_elim, mul-le-mul, arith}
+use Rattle.std.proofs.lemmas.Bool.Decides.{nat_tests}
+use Rattle.std.specs.Char.{digit_value}
 use Rattle.std.proofs.lemmas.List.Sums.{fold_more}
 use Rattle.std.proofs.lemmas.Bool.{cases_lt}
 use Rattle.script.specs.Numbers.{digit_of, value_of}
+
+-- A digit that the library reads in a base up to 16.
+pub digit_read : (c base d : ℕ) → base ≤ 16 → digit_value c < base → d ≡ digit_value c → (d ≡ digit_of c) × (digit_of c < base)
+digit_read c base d h lt e = grind (arith, nat_tests)
 
 -- A digit more at a value that has stopped is as at the value itself.
 pub capped : (v base d : ℕ) → 1 ≤ base → min (min v (2 ^ 32) * base + d) (2 ^ 32) ≡ min (v * base + d) (2 ^ 32)

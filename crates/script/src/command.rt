@@ -3,8 +3,8 @@ ghost use Rattle.std.specs.Prelude.{◌≡◌, ℕ, ◌<◌, ◌≤◌, length, 
 ghost use Rattle.script.specs.Commands.{verb_of};
 ghost use Rattle.script.specs.Numbers.{Writes};
 
-use crate::number::number;
-use crate::verb::{Verb, for_machine};
+use crate::number::limited;
+use crate::verb::Verb;
 use crate::wiring::Wiring;
 use crate::wrong::Wrong;
 use std::alloc::Global;
@@ -14,7 +14,7 @@ use tables::Controls;
 pub const MOST_STORAGE: u32 = 67_108_864;
 
 /// A command with its arguments.
-#[derive(Drop)]
+#[derive(Debug, PartialEq, Eq, Drop)]
 pub enum Command {
     Help,
     Wire(Wiring),
@@ -35,15 +35,12 @@ pub fn uncommented(line: &[u8]) -> &[u8]
     ensures clear { (k : ℕ) → k < length result.now → slice_index line.now k ≢ 35 }
     ensures stops { length result.now < length line.now → slice_index line.now (length result.now) ≡ 35 }
 {
-    for (i, c) in line.iter().enumerate() {
-        if *c == b'#' {
-            return &line[0..i];
-        }
-    }
-    line
+    let end = line.iter().position(|c| *c == b'#').unwrap_or(line.len());
+    &line[..end]
 }
 
-// A number of 32 bits among the words behind a verb.
+// A number of 32 bits among the words behind a verb. (One function for both widths would want a trait of its own, by which a
+// clause says what number a `u32` or a `u8` is: that is no plainer than two lines.)
 fn word_of(verb: Verb, word: &str) -> Result<u32, Wrong>
     ensures { IfOk result (Writes word.now) }
 {
@@ -57,29 +54,18 @@ fn byte_of(verb: Verb, word: &str) -> Result<u8, Wrong>
     Ok(limited(verb, word, 255)? as u8)
 }
 
-// A number up to a largest one among the words behind a verb.
-fn limited(verb: Verb, word: &str, largest: u32) -> Result<u32, Wrong>
-    ensures { IfOk result (λ n. Writes word.now n × (n ≤ largest)) }
-{
-    match number(word.as_bytes(), largest) {
-        Ok(n) => Ok(n),
-        Err(why) => Err(Wrong::Number(verb, why)),
-    }
-}
-
 // ALTER address byte byte ..
 fn alter(heap: Global, words: &[&str]) -> Result<Command, Wrong>
     ensures { IfOk result (λ c. verb_of c ≡ Verb.Alter) }
 {
-    let [address, first, rest @ ..] = words else {
+    let [address, _, ..] = words else {
         return Err(Wrong::Arguments(Verb::Alter));
     };
     let address = word_of(Verb::Alter, address)?;
-    let mut bytes = Vec::new(heap);
-    bytes.push(byte_of(Verb::Alter, first)?)?;
-    for word in rest {
-        bytes.push(byte_of(Verb::Alter, word)?)?;
-    }
+    let bytes = words[1..]
+        .iter()
+        .map(|word| byte_of(Verb::Alter, word))
+        .try_collect(heap)?;
     Ok(Command::Alter(address, bytes))
 }
 
@@ -161,16 +147,11 @@ impl Command {
 
 /// The command that a line writes, or none where it has no words.
 pub fn parse(heap: Global, line: &[u8]) -> Result<Option<Command>, Wrong> {
-    let Ok(text) = std::str::from_utf8(uncommented(line)) else {
-        return Err(Wrong::NotText);
-    };
+    let text = std::str::from_utf8(uncommented(line)).map_err(|_| Wrong::NotText)?;
     let words: Vec<&str> = text.split_ascii_whitespace().collect(heap)?;
     let [first, rest @ ..] = words.as_slice() else {
         return Ok(None);
     };
-    match Verb::named(first) {
-        Some(verb) => Ok(Some(Command::of(heap, verb, rest)?)),
-        None if for_machine(first) => Err(Wrong::NoMachine),
-        None => Err(Wrong::NoCommand),
-    }
+    let verb = first.parse()?;
+    Command::of(heap, verb, rest).map(Some)
 }

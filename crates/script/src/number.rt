@@ -1,9 +1,14 @@
 //! Numbers as an operator writes them: decimal, as `31`, or hexadecimal between quotes, as `X'1F'`.
-ghost use Rattle.std.specs.Prelude.{◌≡◌, ℕ, ◌^◌, ◌≤◌, min, Decides, MatchOption};
-ghost use Rattle.script.specs.Numbers.{digit_of, Numeral, Quoted, ReadsTo, value_of};
+ghost use Rattle.std.specs.Prelude.{◌≡◌, ℕ, ◌^◌, ◌≤◌, min, IfOk, MatchOption};
+ghost use Rattle.script.specs.Numbers.{Numeral, ReadsTo, value_of, Writes};
+
+use crate::verb::Verb;
+use crate::wrong::Wrong;
+use std::error::Error;
+use std::fmt;
 
 /// Why a word is not the number that is wanted.
-#[derive(Clone, Copy)]
+#[derive(Clone, Copy, Debug, PartialEq, Eq)]
 pub enum NotNumber {
     /// It writes no number.
     Malformed,
@@ -14,53 +19,50 @@ pub enum NotNumber {
 /// More than any number that can be wanted: a value stops here.
 const BEYOND: u64 = 4_294_967_296;
 
-// The digit that a character is, 0 to 15; 16 where it is none.
-fn digit(c: u8) -> u8
-    ensures { result ≡ digit_of c }
-{
-    match c {
-        b'0'..=b'9' => c - b'0',
-        b'A'..=b'F' => c - b'A' + 10,
-        b'a'..=b'f' => c - b'a' + 10,
-        _ => 16,
+impl fmt::Display for NotNumber {
+    fn fmt<W: fmt::Write>(&self, f: &mut fmt::Formatter<W>) -> fmt::Result {
+        match self {
+            NotNumber::Malformed => f.write_str("a word is no number, as 31 or X'1F'"),
+            NotNumber::TooLarge => f.write_str("a number is too large"),
+        }
     }
 }
+
+impl Error for NotNumber {}
 
 // The number that the digits of a base write, or what it stops at; none where the text is no numeral of the base.
-fn numeral(base: u64, text: &[u8]) -> Option<u64>
-    requires { (1 ≤ base) × (base ≤ 16) }
+fn numeral(base: u32, text: &[u8]) -> Option<u64>
+    requires { (2 ≤ base) × (base ≤ 16) }
     ensures { MatchOption result (Numeral base text.now → ⊥) (λ v. Numeral base text.now × (v ≡ min (value_of base text.now) (2 ^ 32))) }
 {
+    // Not `try_fold`: its closure would want clauses of its own, so that the product fits, and be no shorter.
     let mut value: u64 = 0;
     for c in text {
-        let d = digit(*c) as u64;
-        if d >= base {
-            return None;
-        }
-        value = (value * base + d).min(BEYOND);
+        let digit = char::from(*c).to_digit(base)?;
+        value = (value * u64::from(base) + u64::from(digit)).min(BEYOND);
     }
     if text.is_empty() { None } else { Some(value) }
-}
-
-// Whether a text has X and a quote in front, and a quote behind.
-fn quoted(text: &[u8]) -> bool
-    ensures { Decides result (Quoted text.now) }
-{
-    text.len() >= 3 && text[0] == b'X' && text[1] == b'\'' && text[text.len() - 1] == b'\''
 }
 
 /// The number that a text writes, where it is at most the largest one.
 pub fn number(text: &[u8], largest: u32) -> Result<u32, NotNumber>
     ensures { ReadsTo text.now largest result }
 {
-    let value = if quoted(text) {
-        numeral(16, &text[2..text.len() - 1])
-    } else {
-        numeral(10, text)
+    let value = match text {
+        [b'X', b'\'', digits @ .., b'\''] => numeral(16, digits),
+        _ => numeral(10, text),
     };
-    match value {
-        None => Err(NotNumber::Malformed),
-        Some(v) if v <= largest as u64 => Ok(v as u32),
-        Some(_) => Err(NotNumber::TooLarge),
+    let value = value.ok_or(NotNumber::Malformed)?;
+    if value <= u64::from(largest) {
+        Ok(value as u32)
+    } else {
+        Err(NotNumber::TooLarge)
     }
+}
+
+// A number up to a largest one among the words behind a verb.
+pub(crate) fn limited(verb: Verb, word: &str, largest: u32) -> Result<u32, Wrong>
+    ensures { IfOk result (λ n. Writes word.now n × (n ≤ largest)) }
+{
+    number(word.as_bytes(), largest).map_err(|why| Wrong::Number(verb, why))
 }

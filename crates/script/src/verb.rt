@@ -1,11 +1,14 @@
 //! The words that begin a command.
-ghost use Rattle.std.specs.Prelude.{◌≡◌, Some, MatchOption, ◌≢◌};
+ghost use Rattle.std.specs.Prelude.{◌≡◌, Some};
 ghost use Rattle.script.specs.Verbs.{spelled};
+ghost use Rattle.script.specs.Words.{Reads};
 
+use crate::wrong::Wrong;
 use std::fmt;
+use std::str::FromStr;
 
 /// What a command is called.
-#[derive(Clone, Copy)]
+#[derive(Clone, Copy, Debug, PartialEq, Eq)]
 pub enum Verb {
     Help,
     Wire,
@@ -21,26 +24,6 @@ pub enum Verb {
 }
 
 impl Verb {
-    /// The verb that a word is.
-    pub fn named(word: &str) -> Option<Verb>
-        ensures { MatchOption result ((v : Verb) → spelled v ≢ word.now) (λ v. spelled v ≡ word.now) }
-    {
-        match word {
-            "HELP" => Some(Verb::Help),
-            "WIRE" => Some(Verb::Wire),
-            "SAVE" => Some(Verb::Save),
-            "BAD" => Some(Verb::Bad),
-            "MARK" => Some(Verb::Mark),
-            "STORAGE" => Some(Verb::Storage),
-            "DISPLAY" => Some(Verb::Display),
-            "ALTER" => Some(Verb::Alter),
-            "WALK" => Some(Verb::Walk),
-            "CONTROLS" => Some(Verb::Controls),
-            "SLOT" => Some(Verb::Slot),
-            _ => None,
-        }
-    }
-
     /// How it is spelled.
     pub fn name(self) -> &'static str
         ensures { result.now ≡ spelled self }
@@ -78,13 +61,49 @@ impl Verb {
     }
 }
 
-// Whether a word is a command to the machine, of which a board has none yet.
-pub(crate) fn for_machine(word: &str) -> bool {
-    match word {
-        "IPL" | "LOAD" | "STORE" | "FIX" | "FREE" | "PURGE" | "SETTLE" => true,
-        "ENTRY" | "KEYS" | "FRAMES" | "QUEUES" | "PAIRS" | "STATE" => true,
-        _ => false,
+/// The verb that a word spells. Of a word that spells none, the error says whether it is a command to the machine.
+impl FromStr for Verb {
+    type Err = Wrong;
+
+    ghost from_str_gives = { Reads spelled };
+
+    fn from_str(word: &str) -> Result<Verb, Wrong> {
+        match word {
+            "HELP" => Ok(Verb::Help),
+            "WIRE" => Ok(Verb::Wire),
+            "SAVE" => Ok(Verb::Save),
+            "BAD" => Ok(Verb::Bad),
+            "MARK" => Ok(Verb::Mark),
+            "STORAGE" => Ok(Verb::Storage),
+            "DISPLAY" => Ok(Verb::Display),
+            "ALTER" => Ok(Verb::Alter),
+            "WALK" => Ok(Verb::Walk),
+            "CONTROLS" => Ok(Verb::Controls),
+            "SLOT" => Ok(Verb::Slot),
+            _ if for_machine(word) => Err(Wrong::NoMachine),
+            _ => Err(Wrong::NoCommand),
+        }
     }
+}
+
+// Whether a word is a command to the machine, of which a board has none yet.
+fn for_machine(word: &str) -> bool {
+    matches!(
+        word,
+        "IPL"
+            | "LOAD"
+            | "STORE"
+            | "FIX"
+            | "FREE"
+            | "PURGE"
+            | "SETTLE"
+            | "ENTRY"
+            | "KEYS"
+            | "FRAMES"
+            | "QUEUES"
+            | "PAIRS"
+            | "STATE"
+    )
 }
 
 impl fmt::Display for Verb {

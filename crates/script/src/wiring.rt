@@ -1,14 +1,17 @@
 //! What a board is wired from, and the words of WIRE that say it.
-use crate::number::number;
+ghost use Rattle.script.specs.Words.{kind_word, policy_word, Reads, translator_word};
+
+use crate::number::limited;
 use crate::verb::Verb;
 use crate::wrong::Wrong;
-use std::alloc::{AllocError, Global};
+use std::alloc::Global;
+use std::str::FromStr;
 
 /// The slots that a store may be wired with, at most.
 pub const MOST_WIRED: u32 = 16_384;
 
 /// Which frame goes next.
-#[derive(Clone, Copy)]
+#[derive(Clone, Copy, Debug, PartialEq, Eq)]
 pub enum Policy {
     /// five queues
     Queues,
@@ -17,7 +20,7 @@ pub enum Policy {
 }
 
 /// How an address becomes a real one.
-#[derive(Clone, Copy)]
+#[derive(Clone, Copy, Debug, PartialEq, Eq)]
 pub enum Translator {
     /// the walk of the tables alone
     Walker,
@@ -28,14 +31,14 @@ pub enum Translator {
 }
 
 /// The kind of a page store.
-#[derive(Clone, Copy)]
+#[derive(Clone, Copy, Debug, PartialEq, Eq)]
 pub enum Kind {
     Plain,
     DataSet,
 }
 
 /// Where the pages of a store come from.
-#[derive(Drop)]
+#[derive(Debug, PartialEq, Eq, Drop)]
 pub enum Source {
     /// a plain area of so many slots, all zeros
     Plain(u32),
@@ -46,7 +49,7 @@ pub enum Source {
 }
 
 /// A whole board, as WIRE says it.
-#[derive(Drop)]
+#[derive(Debug, PartialEq, Eq, Drop)]
 pub struct Wiring {
     pub policy: Policy,
     pub translator: Translator,
@@ -54,7 +57,7 @@ pub struct Wiring {
 }
 
 /// The words of WIRE that were met so far.
-#[derive(Drop)]
+#[derive(Default, Drop)]
 struct Words<'a> {
     policy: Option<Policy>,
     translator: Option<Translator>,
@@ -72,9 +75,13 @@ fn once<T: Drop>(place: &mut Option<T>, value: T) -> Result<(), Wrong> {
     Ok(())
 }
 
-impl Policy {
-    // The policy that a value of `policy=` names.
-    fn named(value: &str) -> Result<Policy, Wrong> {
+/// The policy that a value of `policy=` names.
+impl FromStr for Policy {
+    type Err = Wrong;
+
+    ghost from_str_gives = { Reads policy_word };
+
+    fn from_str(value: &str) -> Result<Policy, Wrong> {
         match value {
             "queues" => Ok(Policy::Queues),
             "lru" => Ok(Policy::Lru),
@@ -83,9 +90,13 @@ impl Policy {
     }
 }
 
-impl Translator {
-    // The translator that a value of `translator=` names.
-    fn named(value: &str) -> Result<Translator, Wrong> {
+/// The translator that a value of `translator=` names.
+impl FromStr for Translator {
+    type Err = Wrong;
+
+    ghost from_str_gives = { Reads translator_word };
+
+    fn from_str(value: &str) -> Result<Translator, Wrong> {
         match value {
             "walker" => Ok(Translator::Walker),
             "tlb" => Ok(Translator::Tlb),
@@ -95,9 +106,13 @@ impl Translator {
     }
 }
 
-impl Kind {
-    // The kind of store that a value of `store=` names.
-    fn named(value: &str) -> Result<Kind, Wrong> {
+/// The kind of store that a value of `store=` names.
+impl FromStr for Kind {
+    type Err = Wrong;
+
+    ghost from_str_gives = { Reads kind_word };
+
+    fn from_str(value: &str) -> Result<Kind, Wrong> {
         match value {
             "plain" => Ok(Kind::Plain),
             "dataset" => Ok(Kind::DataSet),
@@ -106,36 +121,15 @@ impl Kind {
     }
 }
 
-// The number that a value of `slots=` writes.
-fn slots(value: &str) -> Result<u32, Wrong> {
-    match number(value.as_bytes(), MOST_WIRED) {
-        Ok(n) => Ok(n),
-        Err(why) => Err(Wrong::Number(Verb::Wire, why)),
-    }
-}
-
 impl<'a> Words<'a> {
-    // No words yet.
-    fn new() -> Words<'a> {
-        Words {
-            policy: None,
-            translator: None,
-            kind: None,
-            slots: None,
-            file: None,
-        }
-    }
-
     // Takes in one word of WIRE.
     fn take_in(&mut self, word: &'a str) -> Result<(), Wrong> {
-        let Some((name, value)) = word.split_once('=') else {
-            return Err(Wrong::UnknownWord);
-        };
+        let (name, value) = word.split_once('=').ok_or(Wrong::UnknownWord)?;
         match name {
-            "policy" => once(&mut self.policy, Policy::named(value)?),
-            "translator" => once(&mut self.translator, Translator::named(value)?),
-            "store" => once(&mut self.kind, Kind::named(value)?),
-            "slots" => once(&mut self.slots, slots(value)?),
+            "policy" => once(&mut self.policy, value.parse()?),
+            "translator" => once(&mut self.translator, value.parse()?),
+            "store" => once(&mut self.kind, value.parse()?),
+            "slots" => once(&mut self.slots, limited(Verb::Wire, value, MOST_WIRED)?),
             "file" => once(&mut self.file, value),
             _ => Err(Wrong::UnknownWord),
         }
@@ -157,7 +151,7 @@ impl<'a> Words<'a> {
 impl Wiring {
     /// The board that the words of WIRE say.
     pub fn of(heap: Global, words: &[&str]) -> Result<Wiring, Wrong> {
-        let mut met = Words::new();
+        let mut met = Words::default();
         for word in words {
             met.take_in(word)?;
         }

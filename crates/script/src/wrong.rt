@@ -1,11 +1,15 @@
 //! Why a line cannot be carried out as it is written.
+ghost use Rattle.std.specs.Prelude.{◌≡◌};
+ghost use Rattle.script.specs.declared.wrong.Wrong.TheVariants.{Memory};
+
 use crate::number::NotNumber;
 use crate::verb::Verb;
 use std::alloc::{AllocError, AllocFailed};
+use std::error::Error;
 use std::fmt;
 
 /// What is wrong with a line. Such a line changes nothing.
-#[derive(Clone, Copy)]
+#[derive(Clone, Copy, Debug, PartialEq, Eq)]
 pub enum Wrong {
     /// Its bytes are no text.
     NotText,
@@ -34,12 +38,16 @@ pub enum Wrong {
 }
 
 impl From<AllocError> for Wrong {
+    ghost from_gives = { λ _ e. e ≡ Memory };
+
     fn from(_e: AllocError) -> Wrong {
         Wrong::Memory
     }
 }
 
 impl<T: Drop> From<AllocFailed<T>> for Wrong {
+    ghost from_gives = { λ _ e. e ≡ Memory };
+
     fn from(_e: AllocFailed<T>) -> Wrong {
         Wrong::Memory
     }
@@ -52,10 +60,7 @@ impl fmt::Display for Wrong {
             Wrong::NoCommand => f.write_str("no such command; HELP prints the commands"),
             Wrong::NoMachine => f.write_str("this board has no machine yet"),
             Wrong::Arguments(verb) => wants(f, verb),
-            Wrong::Number(verb, NotNumber::Malformed) => {
-                write!(f, "{verb}: a word is no number, as 31 or X'1F'")
-            }
-            Wrong::Number(verb, NotNumber::TooLarge) => write!(f, "{verb}: a number is too large"),
+            Wrong::Number(verb, why) => write!(f, "{verb}: {why}"),
             Wrong::UnknownWord => f.write_str("WIRE: an unknown word"),
             Wrong::Twice => f.write_str("WIRE: a word stands twice"),
             Wrong::NotWired(verb) => write!(f, "{verb} before the first WIRE"),
@@ -69,6 +74,8 @@ impl fmt::Display for Wrong {
         }
     }
 }
+
+impl Error for Wrong {}
 
 // As `SLOT wants a slot`.
 fn wants<W: fmt::Write>(f: &mut fmt::Formatter<W>, verb: Verb) -> fmt::Result {
