@@ -1,12 +1,13 @@
 -- The two wirings, refuted by computing.
-use Rattle.std.proofs.Common.{◌≡◌, ℕ, List, [], ◌∷◌, Some, None, Ok, Err, Option, Result, refl, arith}
-use Rattle.model.specs.declared.calls.Answer.{Answer}
-use Rattle.model.specs.declared.calls.Answer.TheVariants.{Byte, Done}
+use Rattle.std.proofs.Common.{◌≡◌, ℕ, List, [], ◌∷◌, Some, None, Ok, Err, Option, Result, refl}
+use Rattle.model.specs.declared.calls.Reply.{Reply}
+use Rattle.model.specs.declared.calls.Reply.TheVariants.{Byte, Done}
 use Rattle.model.specs.declared.calls.Call.{Call}
 use Rattle.model.specs.declared.calls.Call.TheVariants.{Load, Store, Fix, Free, Purge, Settle}
 use Rattle.model.specs.declared.calls.Refusal.{Refusal}
+use Rattle.model.specs.declared.shape.Request.{Request}
 use Rattle.model.specs.Flat.{flat_fix, flat_free, flat_load, flat_store}
-use Rattle.model.specs.Refusals.{Request, decode_fix, decode_load, decode_store}
+use Rattle.model.specs.Refusals.{decode_fix, decode_load, decode_store}
 use Rattle.model.specs.Steps.{brought, byte_answer, done_answer, fix, fixing, load, loading, store, storing, worked}
 use Rattle.cases.proofs.Computed.{opening}
 use Rattle.cases.specs.Wirings.{Refuted, Wirings, brought_by, by_name, by_name_calls, fixing_by, loading_by, no_forget, no_forget_calls, sound, started, storing_by, three, two, worked_by}
@@ -40,17 +41,17 @@ same Purge w = refl
 same Settle w = refl
 
 -- two lists of answers that end in different bytes
-by_name_apart : ◌≡◌ {A = List Answer} (Done ∷ Done ∷ Done ∷ Byte 0 ∷ Byte 0 ∷ []) (Done ∷ Done ∷ Done ∷ Byte 0 ∷ Byte 7 ∷ []) → ⊥
-by_name_apart e = let z : ◌≡◌ {A = ℕ} 0 7 = cc in omega arith
+by_name_apart : ◌≡◌ {A = List (Result Reply Refusal)} (Ok Done ∷ Ok Done ∷ Ok Done ∷ Ok (Byte 0) ∷ Ok (Byte 0) ∷ []) (Ok Done ∷ Ok Done ∷ Ok Done ∷ Ok (Byte 0) ∷ Ok (Byte 7) ∷ []) → ⊥
+by_name_apart e = cc
 
-no_forget_apart : ◌≡◌ {A = List Answer} (Byte 0 ∷ Byte 0 ∷ Done ∷ Byte 9 ∷ []) (Byte 0 ∷ Byte 0 ∷ Done ∷ Byte 0 ∷ []) → ⊥
-no_forget_apart e = let z : ◌≡◌ {A = ℕ} 9 0 = cc in omega arith
+no_forget_apart : ◌≡◌ {A = List (Result Reply Refusal)} (Ok (Byte 0) ∷ Ok (Byte 0) ∷ Ok Done ∷ Ok (Byte 9) ∷ []) (Ok (Byte 0) ∷ Ok (Byte 0) ∷ Ok Done ∷ Ok (Byte 0) ∷ []) → ⊥
+no_forget_apart e = cc
 
-by_name_refuted : Refuted by_name two 2 by_name_calls (Done ∷ Done ∷ Done ∷ Byte 0 ∷ Byte 0 ∷ []) (Done ∷ Done ∷ Done ∷ Byte 0 ∷ Byte 7 ∷ [])
+by_name_refuted : Refuted by_name two 2 by_name_calls (Ok Done ∷ Ok Done ∷ Ok Done ∷ Ok (Byte 0) ∷ Ok (Byte 0) ∷ []) (Ok Done ∷ Ok Done ∷ Ok Done ∷ Ok (Byte 0) ∷ Ok (Byte 7) ∷ [])
 unfolding opening started flat_load flat_store flat_fix flat_free
 by_name_refuted = record { answered = refl; wrongly = refl; rightly = refl; flatly = refl; differs = λ e. by_name_apart e }
 
-no_forget_refuted : Refuted no_forget three 3 no_forget_calls (Byte 0 ∷ Byte 0 ∷ Done ∷ Byte 9 ∷ []) (Byte 0 ∷ Byte 0 ∷ Done ∷ Byte 0 ∷ [])
+no_forget_refuted : Refuted no_forget three 3 no_forget_calls (Ok (Byte 0) ∷ Ok (Byte 0) ∷ Ok Done ∷ Ok (Byte 9) ∷ []) (Ok (Byte 0) ∷ Ok (Byte 0) ∷ Ok Done ∷ Ok (Byte 0) ∷ [])
 unfolding opening started flat_load flat_store flat_fix flat_free
 no_forget_refuted = record { answered = refl; wrongly = refl; rightly = refl; flatly = refl; differs = λ e. no_forget_apart e }
 

@@ -1,5 +1,6 @@
 -- What the worked machine shows, case by case. Cases A to H are one run; case I starts from the same IPL anew.
 use Rattle.std.specs.Prelude.{◌≡◌, ℕ, ◌*◌, List, [], ◌∷◌, map, replicate, Ok, Err, Result, slice_index}
+use Rattle.std.specs.Result.{result_map_both}
 use Rattle.model.specs.declared.calls.Call.{Call}
 use Rattle.model.specs.declared.calls.Call.TheVariants.{Load, Store, Fix, Free}
 use Rattle.model.specs.Ipl.{ipl}
@@ -20,8 +21,7 @@ entries_of pages w = map (λ p. half w.storage (entry_at p)) pages
 
 -- What the walk answers: the real address, or the number of the refusal.
 abbrev pub walk_told : Result ℕ Refusal → Result ℕ ℕ
-walk_told (Ok real) = Ok real
-walk_told (Err why) = Err (number_of why)
+walk_told r = result_map_both (λ real. real) number_of r
 
 -- The walks of some addresses with the machine's control words, and with other words in the place of control word 0.
 abbrev pub walks : List ℕ → Machine → List (Result ℕ ℕ)

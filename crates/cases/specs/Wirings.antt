@@ -3,15 +3,16 @@
 use Rattle.std.specs.Prelude.{◌≡◌, ℕ, not, ◌&&◌, List, [], ◌∷◌, Some, None, Ok, Err, Option, Result, ◌==◌, slice_index}
 use Rattle.frames.specs.Held.{times_in}
 use Rattle.frames.specs.Keys as keys
-use Rattle.model.specs.declared.calls.Answer.{Answer}
-use Rattle.model.specs.declared.calls.Answer.TheVariants.{Byte, Done, Refused}
+use Rattle.model.specs.declared.calls.Reply.{Reply}
+use Rattle.model.specs.declared.calls.Reply.TheVariants.{Byte, Done}
 use Rattle.model.specs.declared.calls.Call.{Call}
 use Rattle.model.specs.declared.calls.Call.TheVariants.{Load, Store, Fix, Free, Purge, Settle}
 use Rattle.model.specs.declared.calls.Refusal.{Refusal}
+use Rattle.model.specs.declared.shape.Request.{Request}
 use Rattle.model.specs.Flat.{blank, flat_answers}
 use Rattle.model.specs.Ipl.{ipl}
 use Rattle.model.specs.Layout.{no_page, page_in}
-use Rattle.model.specs.Refusals.{Request, decode_fix, decode_load, decode_store}
+use Rattle.model.specs.Refusals.{decode_fix, decode_load, decode_store}
 use Rattle.model.specs.Steps as steps
 use Rattle.model.specs.Steps.{worked}
 use Rattle.model.specs.World.{Config}
@@ -53,23 +54,23 @@ module _ (x : Wiring) where
       (steps.filled parts (steps.taken_frame parts w) p (x w (steps.taken_frame parts w) (steps.taken parts w)))
 
   -- The three calls that may bring a page in, by what their tests have given.
-  abbrev pub loading_by : ℕ → Machine → Result Request Refusal → Answer × Machine
-  loading_by a w (Err why) = (Refused why, w)
+  abbrev pub loading_by : ℕ → Machine → Result Request Refusal → Result Reply Refusal × Machine
+  loading_by a w (Err why) = (Err why, w)
   loading_by a w (Ok q) = (
-    Byte (slice_index (brought_by q.page q.key w q.frame).storage (steps.asked parts a (steps.brought_frame parts w q.frame) (brought_by q.page q.key w q.frame))),
+    Ok (Byte (slice_index (brought_by q.page q.key w q.frame).storage (steps.asked parts a (steps.brought_frame parts w q.frame) (brought_by q.page q.key w q.frame)))),
     steps.loaded_in parts a (steps.brought_frame parts w q.frame) (brought_by q.page q.key w q.frame),
   )
 
-  abbrev pub storing_by : ℕ → ℕ → Machine → Result Request Refusal → Answer × Machine
-  storing_by a byte w (Err why) = (Refused why, w)
+  abbrev pub storing_by : ℕ → ℕ → Machine → Result Request Refusal → Result Reply Refusal × Machine
+  storing_by a byte w (Err why) = (Err why, w)
   storing_by a byte w (Ok q) =
-      (Done, steps.stored_in parts a byte (steps.brought_frame parts w q.frame) (brought_by q.page q.key w q.frame))
+      (Ok Done, steps.stored_in parts a byte (steps.brought_frame parts w q.frame) (brought_by q.page q.key w q.frame))
 
-  abbrev pub fixing_by : Machine → Result Request Refusal → Answer × Machine
-  fixing_by w (Err why) = (Refused why, w)
-  fixing_by w (Ok q) = (Done, steps.fixed_in1 parts (steps.brought_frame parts w q.frame) (brought_by q.page q.key w q.frame))
+  abbrev pub fixing_by : Machine → Result Request Refusal → Result Reply Refusal × Machine
+  fixing_by w (Err why) = (Err why, w)
+  fixing_by w (Ok q) = (Ok Done, steps.fixed_in1 parts (steps.brought_frame parts w q.frame) (brought_by q.page q.key w q.frame))
 
-  abbrev pub worked_by : Call → Machine → Answer × Machine
+  abbrev pub worked_by : Call → Machine → Result Reply Refusal × Machine
   worked_by (Load a key) w = loading_by a w (decode_load w a key)
   worked_by (Store a key byte) w = storing_by a byte w (decode_store w a key)
   worked_by (Fix p) w = fixing_by w (decode_fix w p)
@@ -77,7 +78,7 @@ module _ (x : Wiring) where
   worked_by Purge w = worked parts Purge w
   worked_by Settle w = worked parts Settle w
 
-  abbrev pub answers_by : List Call → Machine → List Answer
+  abbrev pub answers_by : List Call → Machine → List (Result Reply Refusal)
   answers_by [] w = []
   answers_by (c ∷ cs) w = (worked_by c w).0 ∷ answers_by cs (worked_by c w).1
 
@@ -87,7 +88,7 @@ started c slots = (ipl parts c (off c.frames slots)).1
 
 -- A wiring is refuted: IPL is answered, the wiring gives wrong answers to these calls, and the flat machine gives others,
 -- which are those of the rules.
-pub record Refuted (x : Wiring) (c : Config) (slots : ℕ) (calls : List Call) (wrong right : List Answer) : Type 0 where
+pub record Refuted (x : Wiring) (c : Config) (slots : ℕ) (calls : List Call) (wrong right : List (Result Reply Refusal)) : Type 0 where
   pub answered : (ipl parts c (off c.frames slots)).0 ≡ Ok tt
   pub wrongly : answers_by x calls (started c slots) ≡ wrong
   pub rightly : answers_by sound calls (started c slots) ≡ right
@@ -114,5 +115,5 @@ no_forget_calls = Load 4096 1 ∷ Load 6144 1 ∷ Store 8192 1 9 ∷ Load 4096 1
 pub record Wirings : Type 0 where
   -- with the emptying of the rules a call is worked as the rules say
   pub same : (c : Call) (w : Machine) → worked_by sound c w ≡ worked parts c w
-  pub by_name_refuted : Refuted by_name two 2 by_name_calls (Done ∷ Done ∷ Done ∷ Byte 0 ∷ Byte 0 ∷ []) (Done ∷ Done ∷ Done ∷ Byte 0 ∷ Byte 7 ∷ [])
-  pub no_forget_refuted : Refuted no_forget three 3 no_forget_calls (Byte 0 ∷ Byte 0 ∷ Done ∷ Byte 9 ∷ []) (Byte 0 ∷ Byte 0 ∷ Done ∷ Byte 0 ∷ [])
+  pub by_name_refuted : Refuted by_name two 2 by_name_calls (Ok Done ∷ Ok Done ∷ Ok Done ∷ Ok (Byte 0) ∷ Ok (Byte 0) ∷ []) (Ok Done ∷ Ok Done ∷ Ok Done ∷ Ok (Byte 0) ∷ Ok (Byte 7) ∷ [])
+  pub no_forget_refuted : Refuted no_forget three 3 no_forget_calls (Ok (Byte 0) ∷ Ok (Byte 0) ∷ Ok Done ∷ Ok (Byte 9) ∷ []) (Ok (Byte 0) ∷ Ok (Byte 0) ∷ Ok Done ∷ Ok (Byte 0) ∷ [])

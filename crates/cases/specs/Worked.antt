@@ -1,11 +1,13 @@
 -- The worked machine: five queues, a TLB over the walker, a blank data set of 31 slots; 5 frames, 2 of them the
 -- supervisor's, 33 pages, and two partitions.
-use Rattle.std.specs.Prelude.{ℕ, ◌*◌, List, [], ◌∷◌, replicate}
+use Rattle.std.specs.Prelude.{ℕ, ◌*◌, List, [], ◌∷◌, Ok, Err, Result, replicate}
+use Rattle.std.specs.Result.{result_map_both}
 use Rattle.dataset.specs.Format.{blank_set, set_rules}
 use Rattle.model.specs.declared.shape.Partition.{Partition}
-use Rattle.model.specs.declared.calls.Answer.{Answer}
-use Rattle.model.specs.declared.calls.Answer.TheVariants.{Byte, Done, Refused}
+use Rattle.model.specs.declared.calls.Reply.{Reply}
+use Rattle.model.specs.declared.calls.Reply.TheVariants.{Byte, Done}
 use Rattle.model.specs.declared.calls.Call.{Call}
+use Rattle.model.specs.declared.calls.Refusal.{Refusal}
 use Rattle.model.specs.Ipl.{ipl}
 use Rattle.model.specs.Layout.{vacant}
 use Rattle.model.specs.Refusals.{number_of}
@@ -50,15 +52,20 @@ unfoldable pub ready : Machine
 ready = (ipl parts sizes (off 5 31)).1
 
 -- An answer as the tables of cases write it: a byte, done, or the number of a refusal.
-pub data Said : Type 0 where
-  byte : ℕ → Said
-  done : Said
-  refused : ℕ → Said
+abbrev pub Said : Type 0
+Said = Result Reply ℕ
 
-abbrev pub saying : Answer → Said
-saying (Byte b) = byte b
-saying Done = done
-saying (Refused why) = refused (number_of why)
+abbrev pub byte : ℕ → Said
+byte b = Ok (Byte b)
+
+abbrev pub done : Said
+done = Ok Done
+
+abbrev pub refused : ℕ → Said
+refused n = Err n
+
+abbrev pub saying : Result Reply Refusal → Said
+saying r = result_map_both (λ reply. reply) number_of r
 
 -- What a list of calls is answered, and the machine that it leaves.
 abbrev pub said : List Call → Machine → List Said

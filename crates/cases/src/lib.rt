@@ -7,23 +7,17 @@ ghost use Rattle.cases.specs.Governed.{Governed};
 ghost use Rattle.cases.specs.Wirings.{Wirings};
 
 /// The nine cases hold of the rules: each is computed from IPL on.
-pub fn cases_stand() -> u8
+pub fn cases_stand()
     ensures { Cases }
-{
-    0
-}
+{}
 
 /// The change bit trusted from a queue's name, and an emptied page's pair left in the translator: each is refuted by a
 /// list of calls that the flat machine answers otherwise.
-pub fn wirings_are_refuted() -> u8
+pub fn wirings_are_refuted()
     ensures { Wirings }
-{
-    0
-}
+{}
 
 /// The worked machine meets what the laws assume: both hold of every run from its IPL.
-pub fn laws_apply() -> u8
+pub fn laws_apply()
     ensures { Governed }
-{
-    0
-}
+{}

@@ -1,53 +1,62 @@
 -- Each call answers as the flat machine does, and leaves the two side by side.
 use Rattle.std.proofs.Common.{◌≡◌, ℕ, ◌+◌, ◌-◌, ◌*◌, ◌/◌, ◌%◌, ◌<◌, ◌≤◌, Bool, true, false, cond, ◌&&◌, ◌||◌, eqb, ltb, leb, ◌⊎◌, List, get_or, Some, None, Ok, Err, Option, Result, sym, refl, ap, ◌∙◌, subst, inl, inr, arith}
+use Rattle.std.specs.Result.{result_unwrap_or}
 use Rattle.std.proofs.lemmas.List.{get_or-set_same, get_or-set_other}
 use Rattle.std.proofs.lemmas.Bool.{and_from, cases_eq, cases_lt, eq-eqb, false≢true}
 use Rattle.model.specs.declared.calls.Refusal.{Refusal}
 use Rattle.model.specs.declared.calls.Refusal.TheVariants.{Sizes, Key, Protection, FixLimit, NotFixed, AllFixed, Tables}
+use Rattle.model.specs.declared.shape.Request.{Request}
 use Rattle.model.specs.Flat.{Flat, fixed_pages, flat_fix, flat_free, flat_full, flat_load, flat_room, flat_store}
 use Rattle.model.specs.Law.{Belongs, Consistent, Fixed, HasFixed, HeldOnce, InTables, Pageable, Placed, Stands}
 use Rattle.model.specs.Layout.{bit15, controls_of, counted, entries_are, entry_at, entry_for, entry_is, entry_should, fixed_in, fixes_in, frame_of, frames_are, key_of, no_page, out_entry, page_in, segment_at, segment_entries, segments, segments_are}
-use Rattle.model.specs.Refusals.{Request, and_then, decode_fix, decode_free, decode_load, decode_store, fixes_of, full, page_key, right_length, room_and_tables, tables_right, unless, where_is}
-use Rattle.model.specs.Steps.{asked, brought, real_or}
+use Rattle.model.specs.Refusals.{and_then, decode_fix, decode_free, decode_load, decode_store, fixes_of, full, page_key, right_length, room_and_tables, tables_right, unless, where_is}
+use Rattle.model.specs.Steps.{asked, brought}
 use Rattle.model.specs.World.{Config, LawfulParts, Parts, World}
 use Rattle.model.proofs.Beside.{Mem, brought_mem, tables_right_lem}
 use Rattle.model.proofs.Decoded.{Reached, key_ok}
 use Rattle.model.proofs.Find.{frame_none, frame_some}
-use Rattle.model.proofs.Own.{real_is, real_page}
+use Rattle.model.proofs.Own.{frame_listed, real_is, real_page}
 use Rattle.model.proofs.Ready.{Ready}
 use Rattle.model.proofs.Walks.{walks_to}
 use Rattle.storage.specs.Bytes.{half, page, word}
-use Rattle.storage.proofs.Over.{laws}
+use Rattle.storage.specs.Over.{laws}
 use Rattle.tables.specs.declared.Controls.{Controls}
 use Rattle.tables.specs.Walk.{walk}
 
--- The frame field and the invalid bit of an entry, by the entry without its bit 15.
-fourth : (h : ℕ) → h / 4 ≡ h / 2 / 2
-fourth h = omega arith
-
-eighth : (h : ℕ) → h / 8 ≡ h / 2 / 4
-eighth h = omega arith
-
+-- An entry that is four times a frame without its bit 15 is valid and names this frame.
 valid_entry : (s : List ℕ) (p f : ℕ) → f < 256 → half s (entry_at p) / 2 ≡ 4 * f → Belongs s p f
-valid_entry s p f h e =
-    let a = fourth (half s (entry_at p)) in
-    let b = eighth (half s (entry_at p)) in
-    let a1 : half s (entry_at p) / 4 ≡ 2 * f = a ∙ ap (λ n. n / 2) e ∙ (let z : 4 * f / 2 ≡ 2 * f = omega arith in z) in
-    let b1 : half s (entry_at p) / 8 ≡ f = b ∙ ap (λ n. n / 4) e ∙ (let z : 4 * f / 4 ≡ f = omega arith in z) in
-    record {
-      valid = ap (λ n. n % 2) a1 ∙ (let z : 2 * f % 2 ≡ 0 = omega arith in z);
-      names = ap (λ n. n % 8192) b1 ∙ (let z : f % 8192 ≡ f = omega arith in z);
-    }
+valid_entry s p f h e = record { valid = omega arith; names = omega arith }
 
 named_frame : (s : List ℕ) (p f g : ℕ) → g < 256 → half s (entry_at p) / 2 ≡ 4 * g → Belongs s p f → g ≡ f
 named_frame s p f g h e b = let v = valid_entry s p g h e in sym v.names ∙ b.names
 
 -- An entry that is no frame's is invalid.
 invalid_entry : (s : List ℕ) (p f v : ℕ) → half s (entry_at p) / 2 ≡ v → v / 2 % 2 ≡ 1 → Belongs s p f → ⊥
-invalid_entry s p f v e odd b =
-    let a : half s (entry_at p) / 4 % 2 ≡ 1 = ap (λ n. n % 2) (fourth (half s (entry_at p)) ∙ ap (λ n. n / 2) e) ∙ odd in
-    let z = b.valid in
-    omega arith
+invalid_entry s p f v e odd b = let z = b.valid in omega arith
+
+-- Tests that agree: both pass, or both refuse for the same reason.
+abbrev pub Agree : {A : Type 0} → Result A Refusal → Result (Unit {0}) Refusal → Type 0
+Agree (Ok x) (Ok y) = Unit {0}
+Agree (Ok x) (Err y) = ⊥
+Agree (Err x) (Ok y) = ⊥
+Agree (Err x) (Err y) = x ≡ y
+
+-- What holds where both pass, and where both refuse, holds of tests that agree.
+pub agree_cases : {A : Type 0} (P : Result A Refusal → Result (Unit {0}) Refusal → Type 0) (d : Result A Refusal) (f : Result (Unit {0}) Refusal)
+    → Agree d f → ((x : A) → d ≡ Ok x → P (Ok x) (Ok tt)) → ((x y : Refusal) → x ≡ y → P (Err x) (Err y)) → P d f
+agree_cases P (Ok x) (Ok tt) g both none = both x refl
+agree_cases P (Ok x) (Err y) g both none = absurd g
+agree_cases P (Err x) (Ok y) g both none = absurd g
+agree_cases P (Err x) (Err y) g both none = none x y g
+
+agree_chain : {A B : Type 0} (t : Result A Refusal) (next : A → Result B Refusal) (other : A → Result (Unit {0}) Refusal)
+    → ((x : A) → t ≡ Ok x → Agree (next x) (other x)) → Agree (and_then t next) (and_then t other)
+agree_chain (Ok x) next other h = h x refl
+agree_chain (Err why) next other h = refl
+
+agree_first : {B : Type 0} (b : Bool) (why : Refusal) (next : Unit {0} → Result B Refusal) (other : Result (Unit {0}) Refusal)
+    → b ≡ true → Agree (next tt) other → Agree (and_then (unless b why) next) other
+agree_first b why next other e h = subst (λ x. Agree (and_then (unless x why) next) other) (sym e) h
 
 module _ {T P S : Type 0} (r : Parts T P S) (law : LawfulParts r) where
   -- The machine beside the flat machine.
@@ -103,9 +112,6 @@ module _ {T P S : Type 0} (r : Parts T P S) (law : LawfulParts r) where
         by_key None e l = absurd (invalid_entry w.storage p f 16386 (d.mem.entries.rest p pt l e) (omega arith) b)
         by_key (Some key) e l = by_frame key e (where_is w p) refl
 
-    listed_frame : (f : ℕ) → Pageable w.config f → (page_in w.records f ≡ no_page → ⊥) → InTables w.config (page_in w.records f)
-    listed_frame f fp ne = let n = k.table.named f fp ne in let h = (k.fits.keys _ n.0 n.1).1 in omega arith
-
     each : (f : ℕ) → Pageable w.config f → HeldOnce r w m f ⊎ HasFixed r w m f
     each f fp = elim (cases_eq (fixes_in w.records f) 0) [
       | inl z ↦ inl (record {
@@ -123,7 +129,7 @@ module _ {T P S : Type 0} (r : Parts T P S) (law : LawfulParts r) where
           inr (record {
             not_held = k.holding.fixed f fp (omega arith);
             page_of = page_in w.records f;
-            listed = listed_frame f fp ne;
+            listed = frame_listed w.config k.fits w.records k.table f fp ne;
             fixed = omega arith;
             belongs = valid_entry w.storage (page_in w.records f) f (small f fp) (d.mem.entries.inside f fp ne);
           })
@@ -181,25 +187,9 @@ module _ {T P S : Type 0} (r : Parts T P S) (law : LawfulParts r) where
   pub asked_is : (w next : World T P S) (a key f : ℕ) → Ready r (a / 2048) key w f next → asked r a f next ≡ 2048 * f + a % 2048
   asked_is w next a key f d =
       let k = d.brought.consistent in
-      ap (real_or (2048 * f + a % 2048))
+      ap (λ o. result_unwrap_or o (2048 * f + a % 2048))
       (real_is r.translator law.translator next.config k.fits next.records k.table next.translator k.good.translator k.paired next.storage d.long
       a f key d.part d.brought.pageable d.brought.has d.segment d.entry)
-
-  -- Tests that agree: both pass, or both refuse for the same reason.
-  abbrev pub Agree : {A : Type 0} → Result A Refusal → Result (Unit {0}) Refusal → Type 0
-  Agree (Ok x) (Ok y) = Unit {0}
-  Agree (Ok x) (Err y) = ⊥
-  Agree (Err x) (Ok y) = ⊥
-  Agree (Err x) (Err y) = x ≡ y
-
-  agree_chain : {A B : Type 0} (t : Result A Refusal) (next : A → Result B Refusal) (other : A → Result (Unit {0}) Refusal)
-      → ((x : A) → t ≡ Ok x → Agree (next x) (other x)) → Agree (and_then t next) (and_then t other)
-  agree_chain (Ok x) next other h = h x refl
-  agree_chain (Err why) next other h = refl
-
-  agree_first : {B : Type 0} (b : Bool) (why : Refusal) (next : Unit {0} → Result B Refusal) (other : Result (Unit {0}) Refusal)
-      → b ≡ true → Agree (next tt) other → Agree (and_then (unless b why) next) other
-  agree_first b why next other e h = subst (λ x. Agree (and_then (unless x why) next) other) (sym e) h
 
   module _ (w : World T P S) (k : Consistent r w) (bytes fixes : List ℕ) (m : Mem r w bytes fixes) where
     abbrev pub flat_of : Flat

@@ -1,7 +1,7 @@
 -- A machine beside the flat machine: a page brought in, and a sweep, keep them side by side.
 use Rattle.std.proofs.Common.{◌≡◌, ℕ, zero, suc, ◌+◌, ◌-◌, ◌*◌, ◌/◌, ◌<◌, ◌≤◌, Bool, true, false, cond, not, ◌&&◌, eqb, List, length, get_or, Some, None, Option, sym, refl, ap, ◌∙◌, inl, inr, arith}
 use Rattle.std.proofs.lemmas.List.{get_or-set_same, get_or-set_other}
-use Rattle.std.proofs.lemmas.Bool.{and_from, and_parts, cases_eq, eqb-false, ne_eqb, not-true}
+use Rattle.std.proofs.lemmas.Bool.{and_from, and_parts, cases_eq, cond_both, eqb-false, ne_eqb, not-true}
 use Rattle.frames.specs.Keys.{access_of, changed}
 use Rattle.model.specs.Law.{Consistent, Pageable}
 use Rattle.model.specs.Layout.{bit15, entry_at, entry_for, fixed_in, fixes_in, frame_is, frame_of, key_of, no_page, page_in, page_is, segment_at, segments}
@@ -11,13 +11,13 @@ use Rattle.model.specs.World.{LawfulParts, Parts, World}
 use Rattle.model.proofs.Fault.{emptied_body, handed_to, taken_body}
 use Rattle.model.proofs.Find.{all_frames, frame_none, frame_some, is_page}
 use Rattle.model.proofs.Kept.{settled_own}
-use Rattle.model.proofs.Memory.{Absent, Content, Counts, Entries, backing, change_off_lem, content_keys, out_other, out_same, settled_content, settled_entries, taken_changed, vacated_bit, vacated_content, vacated_counts, vacated_entries}
+use Rattle.model.proofs.Memory.{Absent, Content, Counts, Entries, backing, change_off_lem, changed_off, content_keys, out_other, out_same, settled_content, settled_entries, vacated_bit, vacated_content, vacated_counts, vacated_entries}
 use Rattle.model.proofs.Moved.{connected_content, connected_counts, connected_entries}
-use Rattle.model.proofs.Own.{read_in_lem, real_page}
+use Rattle.model.proofs.Own.{in_keys, read_in_lem, real_page, taken_alike}
 use Rattle.model.proofs.Place.{frame_fits}
 use Rattle.model.proofs.Ready.{filling_long, into_long, p_usable}
 use Rattle.storage.specs.Bytes.{frame, half, page, put_half, word, zeros}
-use Rattle.storage.proofs.Over.{laws}
+use Rattle.storage.specs.Over.{laws}
 
 -- Storage, keys, frame table and store of a world stand for these bytes and counts.
 pub record Mem {T P S : Type 0} (r : Parts T P S) (w : World T P S) (bytes fixes : List ℕ) : Type 0 where
@@ -44,7 +44,7 @@ module _ {T P S : Type 0} (r : Parts T P S) (law : LawfulParts r) where
     taken_content : Content r.store w.config w.records (taking r w).keys w.store w.storage bytes
     taken_content =
         content_keys r.store law.store w.config k.fits w.records w.keys (taking r w).keys w.store w.storage bytes m.content
-        (taken_changed w.keys (taking r w).keys (law.policy.take_keys w.policy w.keys k.good.policy))
+        (taken_alike changed changed_off w.keys (taking r w).keys (law.policy.take_keys w.policy w.keys k.good.policy))
 
     -- the emptied frame's page stands behind itself
     module _ (ne : page_in w.records f ≡ no_page → ⊥) where
@@ -112,7 +112,7 @@ module _ {T P S : Type 0} (r : Parts T P S) (law : LawfulParts r) where
         let is : b ≡ backing r.store w.config w1.storage w1.store p =
         ap (λ x. cond (eqb (bit15 w1.storage p) 1) zeros x)
         (read_in_lem r.store w1.store (p - w.config.supervisor) (frame w1.storage f) (p_usable r law w k p key part long absent room) (into_long r law w k p key part long absent room)) in
-        let kl : f < length w1.keys = let l = e.0.keyed.long in let a = fp.1 in let n = k.fits.few in omega arith in
+        let kl = in_keys w.config k.fits w1.records w1.keys e.0.keyed f fp.1 in
         record {
           entries = connected_entries r.store w.config k.fits w1.records e.0.table w1.storage h.entries f p key fp e.1 part gone b bl;
           content = connected_content r.store w.config k.fits w1.records e.0.table w1.storage h.entries f p key fp e.1 part gone b bl w1.keys kl w1.store bytes h.content is;
@@ -125,15 +125,13 @@ module _ {T P S : Type 0} (r : Parts T P S) (law : LawfulParts r) where
     segment_right p h = m.entries.segs (p / 32) (omega arith)
 
     frame_right : (f : ℕ) → Pageable w.config f → frame_is w.config w.storage w.records f ≡ true
-    frame_right f fp = by_page (eqb (page_in w.records f) no_page) refl
-      where
-        by_page : (b : Bool) → eqb (page_in w.records f) no_page ≡ b → cond b true (page_is w.config w.storage (page_in w.records f) (8 * f)) ≡ true
-        by_page true e = refl
-        by_page false e =
-            let ne = eqb-false _ _ e in
-            let n = k.table.named f fp ne in
-            let i = m.entries.inside f fp ne in
-            is_page w.config w.storage (page_in w.records f) (8 * f) (segment_right _ (k.fits.keys _ n.0 n.1).1) (omega arith)
+    frame_right f fp =
+        cond_both (eqb (page_in w.records f) no_page) true (page_is w.config w.storage (page_in w.records f) (8 * f)) (λ b. b ≡ true) (λ _. refl)
+        (λ e.
+        let ne = eqb-false _ _ e in
+        let n = k.table.named f fp ne in
+        let i = m.entries.inside f fp ne in
+        is_page w.config w.storage (page_in w.records f) (8 * f) (segment_right _ (k.fits.keys _ n.0 n.1).1) (omega arith))
 
     pub frames_right : Rattle.model.specs.Layout.frames_are w.config w.storage w.records w.config.supervisor (w.config.frames - w.config.supervisor) ≡ true
     frames_right = all_frames w.config w.storage w.records w.config.supervisor (w.config.frames - w.config.supervisor)
@@ -161,7 +159,7 @@ module _ {T P S : Type 0} (r : Parts T P S) (law : LawfulParts r) where
   -- a frame settled: nothing is changed in it then
   module _ (w : World T P S) (k : Consistent r w) (bytes fixes : List ℕ) (m : Mem r w bytes fixes) (f : ℕ) (fp : Pageable w.config f) where
     kl : f < length w.keys
-    kl = let l = k.keyed.long in let a = fp.1 in let n = k.fits.few in omega arith
+    kl = in_keys w.config k.fits w.records w.keys k.keyed f fp.1
 
     settled_cases : (b : Bool) → (not (eqb (page_in w.records f) no_page) && changed (get_or w.keys f 0)) ≡ b → Mem r (settling r b f (page_in w.records f) w) bytes fixes
     settled_cases false e = m

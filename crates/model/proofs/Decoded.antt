@@ -1,32 +1,30 @@
 -- What a call's tests have found where they let it pass.
-use Rattle.std.proofs.Common.{◌≡◌, ℕ, ◌-◌, ◌*◌, ◌/◌, ◌<◌, Bool, true, false, cond, ◌&&◌, ◌||◌, eqb, ltb, leb, length, Some, None, Ok, Err, Option, Result, sym, refl, ap, ◌∙◌, arith}
+use Rattle.std.proofs.Common.{◌≡◌, ℕ, ◌-◌, ◌*◌, ◌/◌, ◌<◌, Bool, true, false, cond, ◌&&◌, ◌||◌, eqb, ltb, leb, length, Some, None, Ok, Err, Option, Result, sym, refl, ap, ◌∙◌}
+use Rattle.std.specs.Option.{ok_or}
 use Rattle.std.proofs.lemmas.Bool.{eqb-true, ltb-true}
 use Rattle.model.specs.declared.calls.Refusal.{Refusal}
 use Rattle.model.specs.declared.calls.Refusal.TheVariants.{Sizes, Key, Addressing, Protection, FixLimit, NotFixed, AllFixed, Tables}
+use Rattle.model.specs.declared.shape.Request.{Request}
 use Rattle.model.specs.Layout.{entries_are, frames_are, key_of, segment_entries, segments, segments_are}
-use Rattle.model.specs.Refusals.{Request, and_then, decode_fix, decode_free, decode_load, decode_purge, decode_settle, decode_store, fixes_of, full, keyed, page_key, right_length, room_and_tables, tables_right, unless, where_is}
+use Rattle.model.specs.Refusals.{and_then, decode_fix, decode_free, decode_load, decode_purge, decode_settle, decode_store, fixes_of, full, page_key, right_length, room_and_tables, tables_right, unless, where_is}
 use Rattle.model.specs.World.{Config, World}
 
 pub chain_ok : {A B : Type 0} (r : Result A Refusal) (next : A → Result B Refusal) (y : B) → and_then r next ≡ Ok y → (x : A) × (r ≡ Ok x) × (next x ≡ Ok y)
 chain_ok (Ok x) next y e = (x, refl, e)
-chain_ok (Err why) next y e = let z : ◌≡◌ {A = ℕ} 0 1 = cc in absurd (omega arith)
+chain_ok (Err why) next y e = cc
 
 pub unless_ok : (b : Bool) (why : Refusal) (x : Unit {0}) → unless b why ≡ Ok x → b ≡ true
 unless_ok true why x e = refl
-unless_ok false why x e = let z : ◌≡◌ {A = ℕ} 0 1 = cc in absurd (omega arith)
+unless_ok false why x e = cc
 
-key_cases : (c : Config) (p key : ℕ) (a b : Bool) → ltb p c.pages ≡ a → ltb p c.supervisor ≡ b
-    → cond a (cond b (Err Protection) (keyed (key_of c.partitions p))) (Err Addressing) ≡ Ok key → key_of c.partitions p ≡ Some key
-key_cases c p key false b t u e = let z : ◌≡◌ {A = ℕ} 0 1 = cc in absurd (omega arith)
-key_cases c p key true true t u e = let z : ◌≡◌ {A = ℕ} 0 1 = cc in absurd (omega arith)
-key_cases c p key true false t u e = go (key_of c.partitions p) refl e
-  where
-    go : (o : Option ℕ) → key_of c.partitions p ≡ o → keyed o ≡ Ok key → key_of c.partitions p ≡ Some key
-    go (Some k) q h = let s : k ≡ key = cc in q ∙ ap Some s
-    go None q h = let z : ◌≡◌ {A = ℕ} 0 1 = cc in absurd (omega arith)
+key_cases : (o : Option ℕ) (key : ℕ) (a b : Bool) → cond a (cond b (Err Protection) (ok_or o Addressing)) (Err Addressing) ≡ Ok key → o ≡ Some key
+key_cases o key false b e = cc
+key_cases o key true true e = cc
+key_cases (Some k) key true false e = cc
+key_cases None key true false e = cc
 
 pub key_ok : (c : Config) (p key : ℕ) → page_key c p ≡ Ok key → key_of c.partitions p ≡ Some key
-key_ok c p key e = key_cases c p key (ltb p c.pages) (ltb p c.supervisor) refl refl e
+key_ok c p key e = key_cases (key_of c.partitions p) key (ltb p c.pages) (ltb p c.supervisor) e
 
 -- A page that a call has reached, with its access key, its frame and right tables.
 pub record Reached {T P S : Type 0} (w : World T P S) (p : ℕ) (q : Request) : Type 0 where
@@ -35,27 +33,32 @@ pub record Reached {T P S : Type 0} (w : World T P S) (p : ℕ) (q : Request) : 
   pub is : q ≡ record { page = p; key = q.key; frame = where_is w p }
   pub tables : tables_right w p q.key (where_is w p) ≡ true
 
-room_cases : {T P S : Type 0} (w : World T P S) (p key : ℕ) (o : Option ℕ) (q : Request) (a b : Bool)
-    → cond a (Err AllFixed) (cond b (Ok (record { page = p; key = key; frame = o })) (Err Tables)) ≡ Ok q
-    → (a ≡ false) × (b ≡ true) × (q ≡ record { page = p; key = key; frame = o })
-room_cases w p key o q true b e = let z : ◌≡◌ {A = ℕ} 0 1 = cc in absurd (omega arith)
-room_cases w p key o q false true e = (refl, refl, cc)
-room_cases w p key o q false false e = let z : ◌≡◌ {A = ℕ} 0 1 = cc in absurd (omega arith)
+room_cases : (x q : Request) (a b : Bool) → cond a (Err AllFixed) (cond b (Ok x) (Err Tables)) ≡ Ok q → (a ≡ false) × (b ≡ true) × (q ≡ x)
+room_cases x q true b e = cc
+room_cases x q false true e = (refl, refl, cc)
+room_cases x q false false e = cc
+
+table_cases : (x q : Request) (b : Bool) → cond b (Ok x) (Err Tables) ≡ Ok q → (b ≡ true) × (q ≡ x)
+table_cases x q true e = (refl, cc)
+table_cases x q false e = cc
 
 module _ {T P S : Type 0} (w : World T P S) where
+  reached : (p key : ℕ) (q : Request) → right_length w ≡ true → page_key w.config p ≡ Ok key → tables_right w p key (where_is w p) ≡ true
+      → q ≡ record { page = p; key = key; frame = where_is w p } → Reached w p q
+  reached p key q l k t e =
+      let ky : key ≡ q.key = ap (λ (x : Request). x.key) (sym e) in
+      record {
+        long = eqb-true _ _ l;
+        part = key_ok w.config p key k ∙ ap Some ky;
+        is = e ∙ ap (λ x. record { page = p; key = x; frame = where_is w p }) ky;
+        tables = ap (λ x. tables_right w p x (where_is w p)) (sym ky) ∙ t;
+      }
+
   reach : (p key : ℕ) (q : Request) → right_length w ≡ true → page_key w.config p ≡ Ok key → room_and_tables w p key (where_is w p) ≡ Ok q
       → Reached w p q × (full w (where_is w p) ≡ false)
   reach p key q l k e =
-      let c = room_cases w p key (where_is w p) q (full w (where_is w p)) (tables_right w p key (where_is w p)) e in
-      let ky : key ≡ q.key = ap (λ (x : Request). x.key) (sym c.2) in (
-        record {
-          long = eqb-true _ _ l;
-          part = key_ok w.config p key k ∙ ap Some ky;
-          is = c.2 ∙ ap (λ x. record { page = p; key = x; frame = where_is w p }) ky;
-          tables = ap (λ x. tables_right w p x (where_is w p)) (sym ky) ∙ c.1;
-        },
-        c.0,
-      )
+      let c = room_cases (record { page = p; key = key; frame = where_is w p }) q (full w (where_is w p)) (tables_right w p key (where_is w p)) e in
+      (reached p key q l k c.1 c.2, c.0)
 
   pub load_ok : (a key : ℕ) (q : Request) → decode_load w a key ≡ Ok q → Reached w (a / 2048) q × (full w (where_is w (a / 2048)) ≡ false)
   unfolding decode_load
@@ -84,25 +87,14 @@ module _ {T P S : Type 0} (w : World T P S) where
       let r = reach p z.0 q (unless_ok (right_length w) Sizes x.0 x.1) z.1 v.2 in
       (r.0, r.1, ltb-true _ _ (unless_ok (ltb (fixes_of w.records (where_is w p)) 255) FixLimit v.0 v.1))
 
-  free_cases : (p key : ℕ) (o : Option ℕ) (q : Request) (b : Bool) → cond b (Ok (record { page = p; key = key; frame = o })) (Err Tables) ≡ Ok q
-      → (b ≡ true) × (q ≡ record { page = p; key = key; frame = o })
-  free_cases p key o q true e = (refl, cc)
-  free_cases p key o q false e = let z : ◌≡◌ {A = ℕ} 0 1 = cc in absurd (omega arith)
-
   pub free_ok : (p : ℕ) (q : Request) → decode_free w p ≡ Ok q → Reached w p q × (0 < fixes_of w.records (where_is w p))
   unfolding decode_free
   free_ok p q e =
       let x = chain_ok (unless (right_length w) Sizes) _ q e in
       let z = chain_ok (page_key w.config p) _ q x.2 in
       let v = chain_ok (unless (ltb 0 (fixes_of w.records (where_is w p))) NotFixed) _ q z.2 in
-      let c = free_cases p z.0 (where_is w p) q (tables_right w p z.0 (where_is w p)) v.2 in
-      let ky : z.0 ≡ q.key = ap (λ (y : Request). y.key) (sym c.1) in (
-        record {
-          long = eqb-true _ _ (unless_ok (right_length w) Sizes x.0 x.1);
-          part = key_ok w.config p z.0 z.1 ∙ ap Some ky;
-          is = c.1 ∙ ap (λ y. record { page = p; key = y; frame = where_is w p }) ky;
-          tables = ap (λ y. tables_right w p y (where_is w p)) (sym ky) ∙ c.0;
-        },
+      let c = table_cases (record { page = p; key = z.0; frame = where_is w p }) q (tables_right w p z.0 (where_is w p)) v.2 in (
+        reached p z.0 q (unless_ok (right_length w) Sizes x.0 x.1) z.1 c.0 c.1,
         ltb-true _ _ (unless_ok (ltb 0 (fixes_of w.records (where_is w p))) NotFixed v.0 v.1),
       )
 

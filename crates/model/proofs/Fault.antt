@@ -1,7 +1,7 @@
 -- The page fault keeps the machine's own parts, whatever main storage holds; and the frame that is taken is a pageable one.
-use Rattle.std.proofs.Common.{◌≡◌, ℕ, ◌-◌, ◌*◌, ◌/◌, ◌<◌, ◌≤◌, Bool, true, false, cond, not, ◌&&◌, eqb, ltb, List, length, get_or, set, Some, None, Option, sym, refl, ap, ◌∙◌, subst, inl, inr, arith}
+use Rattle.std.proofs.Common.{◌≡◌, ℕ, ◌-◌, ◌*◌, ◌/◌, ◌<◌, ◌≤◌, Bool, true, false, cond, not, eqb, ltb, List, length, get_or, set, Some, None, Option, sym, refl, ap, ◌∙◌, subst, inl, inr, arith}
 use Rattle.std.proofs.lemmas.List.{get_or-set_same, get_or-set_other, length-set}
-use Rattle.std.proofs.lemmas.Bool.{and_from, cases_eq, cases_lt, eq-eqb, eqb-false, eqb-true, false≢true, le-leb, lt-ltb, ltb-false, ne_eqb, not-false, not-true}
+use Rattle.std.proofs.lemmas.Bool.{and_from, and_left, cases_eq, cases_lt, cond-false, cond-true, eq-eqb, eqb-false, eqb-true, false≢true, le-leb, lt-ltb, ltb-false, ne_eqb, not-false, not-true}
 use Rattle.frames.specs.Keys.{access_of, changed}
 use Rattle.frames.specs.Policy as policies
 use Rattle.model.specs.declared.shape.FrameRecord.{FrameRecord}
@@ -10,10 +10,10 @@ use Rattle.model.specs.Layout.{fixed_in, fixes_in, key_of, no_page, page_in}
 use Rattle.model.specs.Steps.{chosen, emptied, emptying, faulted, put_out, taken, taken_frame, taking}
 use Rattle.model.specs.World.{Config, LawfulParts, Parts, World}
 use Rattle.model.proofs.Find.{counted_room}
-use Rattle.model.proofs.Own.{fixes_here, fixes_there, holding_same, in_table, keyed_keys, keyed_put, page_here, page_there, real_page, slots_put, table_put, taken_access}
+use Rattle.model.proofs.Own.{access_off, fixes_kept, holding_same, in_keys, in_table, keyed_keys, keyed_put, page_here, page_there, real_page, slots_put, table_put, taken_alike}
 use Rattle.model.proofs.Place.{frame_fits}
 use Rattle.storage.specs.Bytes.{frame}
-use Rattle.storage.proofs.Over.{laws}
+use Rattle.storage.specs.Over.{laws}
 
 -- All of the machine's own parts but the policy.
 pub record Body {T P S : Type 0} (r : Parts T P S) (c : Config) (ks : List ℕ) (rs : List FrameRecord) (t : T) (st : S) : Type 0 where
@@ -112,7 +112,7 @@ module _ {T P S : Type 0} (r : Parts T P S) (law : LawfulParts r) (c : Config) (
         → Body r c (set ks f (16 * key)) (set rs f (record { page = p; fixes = fixes_in rs f })) t st
     body_connect p key part none absent =
         let v : FrameRecord = record { page = p; fixes = fixes_in rs f } in
-        let kl : f < length ks = let l = b.keyed.long in let h = fp.1 in let n = fit.few in omega arith in
+        let kl = in_keys c fit rs ks b.keyed f fp.1 in
         record {
           good_translator = b.good_translator;
           good_store = b.good_store;
@@ -177,16 +177,16 @@ module _ {P : Type 0} (r : policies.Rules P) (law : policies.Lawful r) (c : Conf
   handed_over keys (Some f) left gl picks =
       let k = one_held f picks.0 in
       let fp = k.0 in
-      let is : chosen c.supervisor c.frames (Some f) ≡ f = ap (λ b. cond b f c.supervisor) (and_from _ _ (le-leb _ _ fp.0) (lt-ltb _ _ fp.1)) in
-      let gone : r.times left f ≡ 0 = picks.1 f ∙ ap (λ b. cond b 0 (r.times m f)) (eq-eqb f f refl) in
+      let is : chosen c.supervisor c.frames (Some f) ≡ f = cond-true _ f c.supervisor (and_from _ _ (le-leb _ _ fp.0) (lt-ltb _ _ fp.1)) in
+      let gone : r.times left f ≡ 0 = picks.1 f ∙ cond-true _ 0 (r.times m f) (eq-eqb f f refl) in
       let f256 : f < 256 = let a = fp.1 in let b = fit.few in omega arith in
       let free : policies.free r left f ≡ true = and_from _ _ (lt-ltb f 256 f256) (eq-eqb _ _ gone) in
       subst (Handed r c rs m left) (sym is) (record {
         pageable = fp;
         unfixed = k.1;
         again = λ g. law.enter_times left f g gl ∙ elim (cases_eq g f) [
-          | inl e ↦ ap (λ b. cond (b && policies.free r left f) 1 (r.times left g)) (eq-eqb g f e) ∙ ap (λ b. cond b 1 (r.times left g)) free ∙ sym (ap (r.times m) e ∙ picks.0)
-          | inr e ↦ ap (λ b. cond (b && policies.free r left f) 1 (r.times left g)) (ne_eqb g f e) ∙ picks.1 g ∙ ap (λ b. cond b 0 (r.times m g)) (ne_eqb g f e)
+          | inl e ↦ cond-true _ 1 (r.times left g) (and_from _ _ (eq-eqb g f e) free) ∙ sym (ap (r.times m) e ∙ picks.0)
+          | inr e ↦ cond-false _ 1 (r.times left g) (and_left _ _ (ne_eqb g f e)) ∙ picks.1 g ∙ cond-false _ 0 (r.times m g) (ne_eqb g f e)
         ];
       })
 
@@ -212,7 +212,7 @@ module _ {T P S : Type 0} (r : Parts T P S) (law : LawfulParts r) (w : World T P
   pub taken_body : BodyOf r (taken r w)
   taken_body =
       let kept = law.policy.take_keys w.policy w.keys k.good.policy in
-      body_keys r law w.config k.fits w.keys (taking r w).keys w.records w.translator w.store (body r w k) kept.long (taken_access w.keys (taking r w).keys kept)
+      body_keys r law w.config k.fits w.keys (taking r w).keys w.records w.translator w.store (body r w k) kept.long (taken_alike access_of access_off w.keys (taking r w).keys kept)
 
   frame_long : length (frame w.storage the_frame) ≡ 2048
   frame_long = laws.pages.page_long w.storage (2048 * the_frame) (frame_fits w.config k.fits w.storage long the_frame handed_to.pageable.1)
@@ -240,10 +240,7 @@ module _ {T P S : Type 0} (r : Parts T P S) (law : LawfulParts r) (w : World T P
         body_vacate r law w.config k.fits (taking r w).keys w.records w.translator _ b2 f h.pageable h.unfixed ne,
         page_here w.records f v fl,
         page_there w.records f v,
-        λ g. elim (cases_eq g f) [
-          | inl q ↦ ap (fixes_in (set w.records f v)) q ∙ fixes_here w.records f v fl ∙ ap (fixes_in w.records) (sym q)
-          | inr q ↦ fixes_there w.records f v g q
-        ],
+        fixes_kept w.records f v refl,
       )
 
   pub faulted_own : Brought r p w the_frame (faulted r the_frame p key w)
@@ -259,10 +256,7 @@ module _ {T P S : Type 0} (r : Parts T P S) (law : LawfulParts r) (w : World T P
         | inr q ↦ absent g gp (sym (e.2 g q) ∙ is)
       ] in
       let b = body_connect r law w.config k.fits w1.keys w1.records w1.translator w1.store e.0 f h.pageable p key part e.1 gone in
-      let fixes : (g : ℕ) → fixes_in (set w1.records f v) g ≡ fixes_in w.records g = λ g. elim (cases_eq g f) [
-        | inl q ↦ ap (fixes_in (set w1.records f v)) q ∙ fixes_here w1.records f v fl ∙ e.3 f ∙ ap (fixes_in w.records) (sym q)
-        | inr q ↦ fixes_there w1.records f v g q ∙ e.3 g
-      ] in
+      let fixes : (g : ℕ) → fixes_in (set w1.records f v) g ≡ fixes_in w.records g = λ g. fixes_kept w1.records f v refl g ∙ e.3 g in
       record {
         consistent = whole r (faulted r f p key w) k.fits b
             (law.policy.enter_good (taking r w).left f (law.policy.take_good w.policy w.keys k.good.policy))

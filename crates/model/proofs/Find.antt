@@ -1,15 +1,15 @@
 -- Searches and counts: the frame that has a page, what a sweep of tests says of each frame, how many pass a test.
-use Rattle.std.proofs.Common.{◌≡◌, ℕ, zero, suc, ◌+◌, ◌-◌, ◌*◌, ◌/◌, ◌<◌, ◌≤◌, Bool, true, false, cond, ◌&&◌, eqb, ltb, leb, List, Some, None, Option, sym, refl, ap, ◌∙◌, subst, inl, inr, arith}
-use Rattle.std.proofs.lemmas.Bool.{and_from, and_parts, cases_eq, eq-eqb, eqb-false, eqb-true, leb-true, ltb-true, ne_eqb}
+use Rattle.std.proofs.Common.{◌≡◌, ℕ, zero, suc, ◌+◌, ◌-◌, ◌*◌, ◌/◌, ◌<◌, ◌≤◌, Bool, true, false, cond, ◌&&◌, eqb, ltb, leb, List, Some, None, sym, refl, ap, ◌∙◌, subst, inl, inr, arith}
+use Rattle.std.proofs.lemmas.Bool.{and_from, and_parts, cases_eq, cond-false, eq-eqb, eqb-false, eqb-true, leb-true, ltb-true, ne_eqb}
 use Rattle.model.specs.declared.shape.FrameRecord.{FrameRecord}
-use Rattle.model.specs.Law.{Pageable, Table}
+use Rattle.model.specs.Law.{Pageable}
 use Rattle.model.specs.Layout.{counted, entries_are, entry_at, entry_is, entry_should, found_in, frame_is, frame_of, frames_are, named, no_page, page_in, page_is, segment_at, segment_is, segment_word, segments_are}
 use Rattle.model.specs.World.{Config}
 use Rattle.storage.specs.Bytes.{half, word}
 
 pub found_some : (rs : List FrameRecord) (p f n g : ℕ) → found_in rs p f n ≡ Some g → (f ≤ g) × (g < f + n) × (page_in rs g ≡ p)
 unfolding found_in
-found_some rs p f zero g e = let z : ◌≡◌ {A = ℕ} 0 1 = cc in absurd (omega arith)
+found_some rs p f zero g e = cc
 found_some rs p f (suc n) g e =
     (elim (eqb (page_in rs f) p) as (λ b. eqb (page_in rs f) p ≡ b → cond b (Some f) (found_in rs p (f + 1) n) ≡ Some g → (f ≤ g) × (g < f + suc n) × (page_in rs g ≡ p)) [
       | true ↦ λ t q. let s : f ≡ g = cc in (omega arith, omega arith, subst (λ k. page_in rs k ≡ p) s (eqb-true _ _ t))
@@ -21,7 +21,7 @@ unfolding found_in
 found_none rs p f zero e g h k = absurd (omega arith)
 found_none rs p f (suc n) e g h k =
     (elim (eqb (page_in rs f) p) as (λ b. eqb (page_in rs f) p ≡ b → cond b (Some f) (found_in rs p (f + 1) n) ≡ None → page_in rs g ≡ p → ⊥) [
-      | true ↦ λ t q. let z : ◌≡◌ {A = ℕ} 0 1 = cc in absurd (omega arith)
+      | true ↦ λ t q. cc
       | false ↦ λ t q. elim (cases_eq g f) [
         | inl s ↦ λ is. eqb-false _ _ t (ap (page_in rs) (sym s) ∙ is)
         | inr s ↦ found_none rs p (f + 1) n q g (omega arith) (omega arith)
@@ -32,9 +32,9 @@ module _ (c : Config) (s : List ℕ) (rs : List FrameRecord) (some : c.superviso
   looked : (p : ℕ) (b : Bool) → (leb c.supervisor (named s p) && (ltb (named s p) c.frames && eqb (page_in rs (named s p)) p)) ≡ b
       → (f : ℕ) → cond b (Some (named s p)) (found_in rs p c.supervisor (c.frames - c.supervisor)) ≡ Some f → Pageable c f × (page_in rs f ≡ p)
   looked p true t f e =
+      let same : named s p ≡ f = cc in
       let a = and_parts _ _ t in
       let b = and_parts _ _ a.1 in
-      let same : named s p ≡ f = cc in
       subst (λ g. Pageable c g × (page_in rs g ≡ p)) same ((leb-true _ _ a.0, ltb-true _ _ b.0), eqb-true _ _ b.1)
   looked p false t f e =
       let k = found_some rs p c.supervisor (c.frames - c.supervisor) f e in
@@ -47,22 +47,12 @@ module _ (c : Config) (s : List ℕ) (rs : List FrameRecord) (some : c.superviso
 
   missed : (p : ℕ) (b : Bool) → cond b (Some (named s p)) (found_in rs p c.supervisor (c.frames - c.supervisor)) ≡ None
       → (f : ℕ) → Pageable c f → page_in rs f ≡ p → ⊥
-  missed p true e = let z : ◌≡◌ {A = ℕ} 0 1 = cc in absurd (omega arith)
+  missed p true e = cc
   missed p false e = λ f h is. let a = h.1 in found_none rs p c.supervisor (c.frames - c.supervisor) e f h.0 (omega arith) is
 
   -- where none is found no frame has it
   pub frame_none : (p : ℕ) → frame_of c s rs p ≡ None → (f : ℕ) → Pageable c f → page_in rs f ≡ p → ⊥
   frame_none p e = missed p _ e
-
-  -- a page that a frame has is found there, since no other has it
-  pub frame_is_lem : Table c rs → (p f : ℕ) → Pageable c f → page_in rs f ≡ p → (p ≡ no_page → ⊥) → frame_of c s rs p ≡ Some f
-  frame_is_lem t p f h is ne = go (frame_of c s rs p) refl
-    where
-      go : (o : Option ℕ) → frame_of c s rs p ≡ o → frame_of c s rs p ≡ Some f
-      go None e = absurd (frame_none p e f h is)
-      go (Some g) e =
-          let k = frame_some p g e in
-          e ∙ ap Some (t.apart g f k.0 h (k.1 ∙ sym is) (λ z. ne (sym k.1 ∙ z)))
 
 -- A sweep of tests over the frames: each of them, and back.
 pub each_frame : (c : Config) (s : List ℕ) (rs : List FrameRecord) (f n : ℕ) → frames_are c s rs f n ≡ true → (g : ℕ) → f ≤ g → g < f + n → frame_is c s rs g ≡ true
@@ -111,7 +101,7 @@ is_page c s p e a b = and_from _ _ (eq-eqb _ _ a) (eq-eqb _ _ b)
 pub frame_page : (c : Config) (s : List ℕ) (rs : List FrameRecord) (f : ℕ) → frame_is c s rs f ≡ true → (page_in rs f ≡ no_page → ⊥)
     → (word s (segment_at (page_in rs f / 32)) ≡ segment_word c (page_in rs f / 32)) × (half s (entry_at (page_in rs f)) / 2 ≡ 4 * f)
 frame_page c s rs f t ne =
-    let k = page_is_lem c s (page_in rs f) (8 * f) (sym (ap (λ b. cond b true (page_is c s (page_in rs f) (8 * f))) (ne_eqb _ _ ne)) ∙ t) in
+    let k = page_is_lem c s (page_in rs f) (8 * f) (sym (cond-false _ true (page_is c s (page_in rs f) (8 * f)) (ne_eqb _ _ ne)) ∙ t) in
     let a = k.1 in
     (k.0, omega arith)
 

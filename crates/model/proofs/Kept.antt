@@ -1,26 +1,28 @@
 -- Every call keeps the machine's own parts, whatever main storage holds, and tells its answer or the first refusal.
 use Rattle.std.proofs.Common.{◌≡◌, ℕ, zero, suc, ◌+◌, ◌-◌, ◌*◌, ◌/◌, ◌<◌, ◌≤◌, Bool, true, false, cond, not, ◌&&◌, eqb, ◌⊎◌, List, [], ◌∷◌, length, get_or, set, Some, None, Ok, Err, Option, Result, sym, refl, ap, ◌∙◌, subst, inl, inr, arith}
+use Rattle.std.specs.Result.{result_err}
 use Rattle.std.proofs.lemmas.List.{length-set}
-use Rattle.std.proofs.lemmas.Bool.{and_from, and_parts, cases_eq, eq-eqb, eqb-false, eqb-true, lt-ltb, ne_eqb, not-true}
+use Rattle.std.proofs.lemmas.Bool.{and_from, and_left, and_parts, cases_eq, cond-false, cond-true, cond_both, eq-eqb, eqb-false, eqb-true, lt-ltb, ne_eqb, not-true}
 use Rattle.frames.specs.Keys.{access_of, changed, reference_on, referred}
 use Rattle.frames.specs.Policy as policies
 use Rattle.model.specs.declared.calls.Call.{Call}
 use Rattle.model.specs.declared.calls.Call.TheVariants.{Load, Store, Fix, Free, Purge, Settle}
 use Rattle.model.specs.declared.calls.Refusal.{Refusal}
 use Rattle.model.specs.declared.shape.FrameRecord.{FrameRecord}
-use Rattle.model.specs.Law.{Consistent, Holding, Pageable, Steady, Told, ToldBy, first_refusal, handed, refused_by}
+use Rattle.model.specs.declared.shape.Request.{Request}
+use Rattle.model.specs.Law.{Consistent, Holding, Pageable, Steady, Told, ToldBy, first_refusal, handed}
 use Rattle.model.specs.Layout.{entry_at, entry_should, fixes_in, no_page, page_in, segment_at, segment_entries, segment_word, segments}
-use Rattle.model.specs.Refusals.{Request, decode_fix, decode_free, decode_load, decode_purge, decode_settle, decode_store, fixes_of, where_is}
+use Rattle.model.specs.Refusals.{decode_fix, decode_free, decode_load, decode_purge, decode_settle, decode_store, fixes_of, where_is}
 use Rattle.model.specs.Steps.{brought, byte_answer, done_answer, brought_frame, change_off, change_on, fix, fixed_in1, fixing, free, freed_in, freeing, load, loaded_in, loading, purge, purged, purging, settle, settled_in, settling, store, stored_in, storing, sweeping, swept, worked}
 use Rattle.model.specs.World.{LawfulParts, Parts, World}
 use Rattle.model.proofs.Decoded.{fix_ok, free_ok, load_ok, purge_ok, settle_ok, store_ok}
 use Rattle.model.proofs.Fault.{Body, body, body_keys, body_out, whole}
 use Rattle.model.proofs.Find.{each_entry, each_segment, frame_some}
-use Rattle.model.proofs.Own.{access_change_off, access_change_on, access_on, access_set, agrees_frame, asked_paired, fixes_here, fixes_there, holding_same, in_table, keyed_put, page_here, page_there, paired_same, real_page, table_count}
+use Rattle.model.proofs.Own.{access_change_off, access_change_on, access_on, agrees_frame, asked_paired, fixes_here, fixes_there, get_or-set_alike, holding_same, in_table, keyed_put, pages_kept, paired_same, real_page, table_count}
 use Rattle.model.proofs.Place.{frame_fits}
 use Rattle.model.proofs.Ready.{Ready, ready}
 use Rattle.storage.specs.Bytes.{frame, half, word}
-use Rattle.storage.proofs.Over.{laws}
+use Rattle.storage.specs.Over.{laws}
 use Rattle.translation.specs.Translator as translators
 
 module _ {T P S : Type 0} (r : Parts T P S) (law : LawfulParts r) where
@@ -31,7 +33,7 @@ module _ {T P S : Type 0} (r : Parts T P S) (law : LawfulParts r) where
     marked_body =
         let k = d.brought.consistent in
         let b = body_keys r law next.config k.fits next.keys (set next.keys f mark) next.records next.translator next.store (body r next k)
-        (length-set next.keys f mark) (access_set next.keys f mark same) in
+        (length-set next.keys f mark) (get_or-set_alike access_of next.keys f mark 0 same) in
         record {
           good_translator = law.translator.translate_good next.translator next.storage a k.good.translator;
           good_store = b.good_store;
@@ -72,10 +74,7 @@ module _ {T P S : Type 0} (r : Parts T P S) (law : LawfulParts r) where
     fits_table = in_table w.config k.fits w.records k.table f fp.1
 
     pub same_pages : (g : ℕ) → page_in counts g ≡ page_in w.records g
-    same_pages g = elim (cases_eq g f) [
-      | inl q ↦ ap (page_in counts) q ∙ page_here w.records f _ fits_table ∙ ap (page_in w.records) (sym q)
-      | inr q ↦ page_there w.records f _ g q
-    ]
+    same_pages = pages_kept w.records f _ refl
 
     counted_body : Body r w.config w.keys counts w.translator w.store
     counted_body =
@@ -110,57 +109,44 @@ module _ {T P S : Type 0} (r : Parts T P S) (law : LawfulParts r) where
 
   -- a page fixed once more
   pub fixed_own : (w : World T P S) → Consistent r w → (f : ℕ) → Pageable w.config f → (page_in w.records f ≡ no_page → ⊥) → Consistent r (fixed_in1 r f w)
-  fixed_own w k f fp ne = by_count (eqb (fixes_in w.records f) 0) refl
-    where
-      by_count : (b : Bool) → eqb (fixes_in w.records f) 0 ≡ b → Consistent r (fixed_in1 r f w)
-      by_count true e =
-          let gone : (g : ℕ) → r.policy.times (r.policy.leave w.policy f) g ≡ cond (eqb g f) 0 (r.policy.times w.policy g) = λ g. law.policy.leave_times w.policy f g k.good.policy in
-          let pol : cond (eqb (fixes_in w.records f) 0) (r.policy.leave w.policy f) w.policy ≡ r.policy.leave w.policy f = ap (λ b. cond b (r.policy.leave w.policy f) w.policy) e in
-          whole r (fixed_in1 r f w) k.fits (counted_body w k f (fixes_in w.records f + 1) fp ne)
-          (subst r.policy.good (sym pol) (law.policy.leave_good w.policy f k.good.policy))
-          (subst (Holding r.policy w.config (counts w k f (fixes_in w.records f + 1) fp ne)) (sym pol)
-          (counted_holding w k f (fixes_in w.records f + 1) fp ne (r.policy.leave w.policy f)
-          (λ g q. gone g ∙ ap (λ b. cond b 0 (r.policy.times w.policy g)) (ne_eqb g f q))
-          (λ z. absurd (omega arith))
-          (λ _. gone f ∙ ap (λ b. cond b 0 (r.policy.times w.policy f)) (eq-eqb f f refl))))
-      by_count false e =
-          let pos : 0 < fixes_in w.records f = let z = eqb-false _ _ e in elim (cases_eq (fixes_in w.records f) 0) [ inl q ↦ absurd (z q) | inr q ↦ omega arith ] in
-          let pol : cond (eqb (fixes_in w.records f) 0) (r.policy.leave w.policy f) w.policy ≡ w.policy = ap (λ b. cond b (r.policy.leave w.policy f) w.policy) e in
-          whole r (fixed_in1 r f w) k.fits (counted_body w k f (fixes_in w.records f + 1) fp ne)
-          (subst r.policy.good (sym pol) k.good.policy)
-          (subst (Holding r.policy w.config (counts w k f (fixes_in w.records f + 1) fp ne)) (sym pol)
-          (counted_holding w k f (fixes_in w.records f + 1) fp ne w.policy (λ g q. refl) (λ z. absurd (omega arith)) (λ _. k.holding.fixed f fp pos)))
+  fixed_own w k f fp ne =
+      let n = fixes_in w.records f + 1 in
+      let leave = r.policy.leave w.policy f in
+      let gone : (g : ℕ) → r.policy.times leave g ≡ cond (eqb g f) 0 (r.policy.times w.policy g) = λ g. law.policy.leave_times w.policy f g k.good.policy in
+      let h = cond_both (eqb (fixes_in w.records f) 0) leave w.policy (λ m. r.policy.good m × Holding r.policy w.config (counts w k f n fp ne) m)
+      (λ e. (
+        law.policy.leave_good w.policy f k.good.policy,
+        counted_holding w k f n fp ne leave (λ g q. gone g ∙ cond-false (eqb g f) 0 (r.policy.times w.policy g) (ne_eqb g f q))
+            (λ z. absurd (omega arith)) (λ _. gone f ∙ cond-true (eqb f f) 0 (r.policy.times w.policy f) (eq-eqb f f refl)),
+      ))
+      (λ e. let more = eqb-false _ _ e in (
+        k.good.policy,
+        counted_holding w k f n fp ne w.policy (λ g q. refl) (λ z. absurd (omega arith)) (λ _. k.holding.fixed f fp (omega arith)),
+      )) in
+      whole r (fixed_in1 r f w) k.fits (counted_body w k f n fp ne) h.0 h.1
 
   -- a page freed once
   pub freed_own : (w : World T P S) → Consistent r w → (f : ℕ) → Pageable w.config f → (page_in w.records f ≡ no_page → ⊥) → 0 < fixes_in w.records f → Consistent r (freed_in r f w)
-  freed_own w k f fp ne pos = by_count (eqb (fixes_in w.records f) 1) refl
-    where
-      by_count : (b : Bool) → eqb (fixes_in w.records f) 1 ≡ b → Consistent r (freed_in r f w)
-      by_count true e =
-          let rf = referred (get_or w.keys f 0) in
-          let ch = changed (get_or w.keys f 0) in
-          let one = eqb-true _ _ e in
-          let was = k.holding.fixed f fp pos in
-          let f256 : f < 256 = let a = fp.1 in let b = k.fits.few in omega arith in
-          let enterable : policies.free r.policy w.policy f ≡ true = and_from _ _ (lt-ltb f 256 f256) (eq-eqb _ _ was) in
-          let back : (g : ℕ) → r.policy.times (r.policy.give_back w.policy f rf ch) g ≡ cond (eqb g f && policies.free r.policy w.policy f) 1 (r.policy.times w.policy g) =
-          λ g. law.policy.back_times w.policy f g rf ch k.good.policy in
-          let pol : cond (eqb (fixes_in w.records f) 1) (r.policy.give_back w.policy f rf ch) w.policy ≡ r.policy.give_back w.policy f rf ch = ap (λ b. cond b (r.policy.give_back w.policy f rf ch) w.policy) e in
-          whole r (freed_in r f w) k.fits (counted_body w k f (fixes_in w.records f - 1) fp ne)
-          (subst r.policy.good (sym pol) (law.policy.back_good w.policy f rf ch k.good.policy))
-          (subst (Holding r.policy w.config (counts w k f (fixes_in w.records f - 1) fp ne)) (sym pol)
-          (counted_holding w k f (fixes_in w.records f - 1) fp ne (r.policy.give_back w.policy f rf ch)
-          (λ g q. back g ∙ ap (λ b. cond (b && policies.free r.policy w.policy f) 1 (r.policy.times w.policy g)) (ne_eqb g f q))
-          (λ _. back f ∙ ap (λ b. cond (b && policies.free r.policy w.policy f) 1 (r.policy.times w.policy f)) (eq-eqb f f refl) ∙ ap (λ b. cond b 1 (r.policy.times w.policy f)) enterable)
-          (λ z. absurd (omega arith))))
-      by_count false e =
-          let pol : cond (eqb (fixes_in w.records f) 1) (r.policy.give_back w.policy f (referred (get_or w.keys f 0)) (changed (get_or w.keys f 0))) w.policy ≡ w.policy =
-          ap (λ b. cond b (r.policy.give_back w.policy f (referred (get_or w.keys f 0)) (changed (get_or w.keys f 0))) w.policy) e in
-          let two : 1 < fixes_in w.records f = let z = eqb-false _ _ e in elim (cases_eq (fixes_in w.records f) 1) [ inl q ↦ absurd (z q) | inr q ↦ omega arith ] in
-          whole r (freed_in r f w) k.fits (counted_body w k f (fixes_in w.records f - 1) fp ne)
-          (subst r.policy.good (sym pol) k.good.policy)
-          (subst (Holding r.policy w.config (counts w k f (fixes_in w.records f - 1) fp ne)) (sym pol)
-          (counted_holding w k f (fixes_in w.records f - 1) fp ne w.policy (λ g q. refl) (λ z. absurd (omega arith)) (λ _. k.holding.fixed f fp pos)))
+  freed_own w k f fp ne pos =
+      let n = fixes_in w.records f - 1 in
+      let rf = referred (get_or w.keys f 0) in
+      let ch = changed (get_or w.keys f 0) in
+      let back = r.policy.give_back w.policy f rf ch in
+      let free = policies.free r.policy w.policy f in
+      let f256 : f < 256 = let a = fp.1 in let b = k.fits.few in omega arith in
+      let enterable : free ≡ true = and_from _ _ (lt-ltb f 256 f256) (eq-eqb _ _ (k.holding.fixed f fp pos)) in
+      let held : (g : ℕ) → r.policy.times back g ≡ cond (eqb g f && free) 1 (r.policy.times w.policy g) = λ g. law.policy.back_times w.policy f g rf ch k.good.policy in
+      let h = cond_both (eqb (fixes_in w.records f) 1) back w.policy (λ m. r.policy.good m × Holding r.policy w.config (counts w k f n fp ne) m)
+      (λ e. let one = eqb-true _ _ e in (
+        law.policy.back_good w.policy f rf ch k.good.policy,
+        counted_holding w k f n fp ne back (λ g q. held g ∙ cond-false (eqb g f && free) 1 (r.policy.times w.policy g) (and_left _ _ (ne_eqb g f q)))
+            (λ _. held f ∙ cond-true (eqb f f && free) 1 (r.policy.times w.policy f) (and_from _ _ (eq-eqb f f refl) enterable)) (λ z. absurd (omega arith)),
+      ))
+      (λ e. let more = eqb-false _ _ e in (
+        k.good.policy,
+        counted_holding w k f n fp ne w.policy (λ g q. refl) (λ z. absurd (omega arith)) (λ _. k.holding.fixed f fp pos),
+      )) in
+      whole r (freed_in r f w) k.fits (counted_body w k f n fp ne) h.0 h.1
 
   -- a frame settled
   pub settled_own : (w : World T P S) → Consistent r w → (f : ℕ) → Pageable w.config f → length w.storage ≡ 2048 * w.config.frames → Consistent r (settled_in r f w)
@@ -173,7 +159,7 @@ module _ {T P S : Type 0} (r : Parts T P S) (law : LawfulParts r) where
           let n = k.table.named f fp ne in
           let l = laws.pages.page_long w.storage (2048 * f) (frame_fits w.config k.fits w.storage long f fp.1) in
           let b1 = body_keys r law w.config k.fits w.keys (set w.keys f (change_off (get_or w.keys f 0))) w.records w.translator w.store (body r w k)
-          (length-set w.keys f _) (access_set w.keys f _ (access_change_off (get_or w.keys f 0))) in
+          (length-set w.keys f _) (get_or-set_alike access_of w.keys f _ 0 (access_change_off (get_or w.keys f 0))) in
           whole r (settling r true f (page_in w.records f) w) k.fits
           (body_out r law w.config k.fits (set w.keys f (change_off (get_or w.keys f 0))) w.records w.translator w.store b1 f fp (frame w.storage f) (page_in w.records f) n.0 n.1 l)
           k.good.policy k.holding
@@ -277,12 +263,12 @@ module _ {T P S : Type 0} (r : Parts T P S) (law : LawfulParts r) where
   -- each call tells its answer or the first refusal, and a refused one leaves everything as found
   pub told : (c : Call) (w : World T P S) → Told r c w (first_refusal c w)
   unfolding load store fix free purge settle
-  told (Load a key) w = elim (decode_load w a key) as (λ q. ToldBy r (byte_answer (loading r a w q).0, (loading r a w q).1) w (refused_by q)) [ Ok q ↦ tt | Err why ↦ refl ]
-  told (Store a key byte) w = elim (decode_store w a key) as (λ q. ToldBy r (done_answer (storing r a byte w q).0, (storing r a byte w q).1) w (refused_by q)) [ Ok q ↦ tt | Err why ↦ refl ]
-  told (Fix p) w = elim (decode_fix w p) as (λ q. ToldBy r (done_answer (fixing r w q).0, (fixing r w q).1) w (refused_by q)) [ Ok q ↦ tt | Err why ↦ refl ]
-  told (Free p) w = elim (decode_free w p) as (λ q. ToldBy r (done_answer (freeing r w q).0, (freeing r w q).1) w (refused_by q)) [ Ok q ↦ tt | Err why ↦ refl ]
-  told Purge w = elim (decode_purge w) as (λ q. ToldBy r (done_answer (purging r w q).0, (purging r w q).1) w (refused_by q)) [ Ok q ↦ tt | Err why ↦ refl ]
-  told Settle w = elim (decode_settle w) as (λ q. ToldBy r (done_answer (sweeping r w q).0, (sweeping r w q).1) w (refused_by q)) [ Ok q ↦ tt | Err why ↦ refl ]
+  told (Load a key) w = elim (decode_load w a key) as (λ q. ToldBy r (byte_answer (loading r a w q).0, (loading r a w q).1) w (result_err q)) [ Ok q ↦ refl | Err why ↦ refl ]
+  told (Store a key byte) w = elim (decode_store w a key) as (λ q. ToldBy r (done_answer (storing r a byte w q).0, (storing r a byte w q).1) w (result_err q)) [ Ok q ↦ refl | Err why ↦ refl ]
+  told (Fix p) w = elim (decode_fix w p) as (λ q. ToldBy r (done_answer (fixing r w q).0, (fixing r w q).1) w (result_err q)) [ Ok q ↦ refl | Err why ↦ refl ]
+  told (Free p) w = elim (decode_free w p) as (λ q. ToldBy r (done_answer (freeing r w q).0, (freeing r w q).1) w (result_err q)) [ Ok q ↦ refl | Err why ↦ refl ]
+  told Purge w = elim (decode_purge w) as (λ q. ToldBy r (done_answer (purging r w q).0, (purging r w q).1) w (result_err q)) [ Ok q ↦ refl | Err why ↦ refl ]
+  told Settle w = elim (decode_settle w) as (λ q. ToldBy r (done_answer (sweeping r w q).0, (sweeping r w q).1) w (result_err q)) [ Ok q ↦ refl | Err why ↦ refl ]
 
   pub steadies : (cs : List (List ℕ × Call)) (w : World T P S) → Consistent r w → Steady r cs w
   steadies [] w k = k

@@ -1,9 +1,8 @@
 -- What ties main storage, the tables and the slots to the flat machine's bytes and counts; and what keeps it, step by step.
 use Rattle.std.proofs.Common.{◌≡◌, ℕ, ◌+◌, ◌-◌, ◌*◌, ◌/◌, ◌%◌, ◌^◌, ◌<◌, ◌≤◌, true, false, cond, eqb, ltb, ◌⊎◌, List, length, get_or, set, Some, None, sym, refl, ap, ◌∙◌, subst, inl, inr, arith}
-use Rattle.std.proofs.lemmas.List.{get_or-set_same, get_or-set_other}
-use Rattle.std.proofs.lemmas.Bool.{cases_eq, eq-eqb, ne_eqb}
+use Rattle.std.proofs.lemmas.List.{get_or-set_other}
+use Rattle.std.proofs.lemmas.Bool.{cases_eq, cond-false, cond-true, eq-eqb, ne_eqb}
 use Rattle.frames.specs.Keys.{access_of, changed, reference_off, reference_on}
-use Rattle.frames.specs.Policy as policies
 use Rattle.model.specs.declared.shape.FrameRecord.{FrameRecord}
 use Rattle.model.specs.Flat.{fixed_pages}
 use Rattle.model.specs.Law.{Fits, Keyed, Pageable, Slots, Table}
@@ -11,11 +10,11 @@ use Rattle.model.specs.Layout.{bit15, entry_at, fixed_in, fixes_in, key_of, no_p
 use Rattle.model.specs.Steps.{change_off, change_on, put_out}
 use Rattle.model.specs.World.{Config}
 use Rattle.model.proofs.Find.{counted_same}
-use Rattle.model.proofs.Own.{fixes_here, fixes_there, in_table, page_here, page_there, put_out_lem}
-use Rattle.model.proofs.Place.{e_frame, e_long, e_other, e_same, e_segment, frame_fits, listed}
+use Rattle.model.proofs.Own.{fixes_kept, fixes_there, frame_listed, in_table, page_here, page_there, put_out_lem}
+use Rattle.model.proofs.Place.{e_frame, e_long, e_other, e_same, e_segment, frame_fits}
 use Rattle.pages.specs.Store as stores
 use Rattle.storage.specs.Bytes.{half, page, put_half, word, zeros}
-use Rattle.storage.proofs.Over.{laws}
+use Rattle.storage.specs.Over.{laws}
 
 -- No pageable frame has page p.
 abbrev pub Absent : Config → List FrameRecord → ℕ → Type 0
@@ -61,19 +60,6 @@ change_on_lem key = eq-eqb _ _ (let e : (key + 2 * (1 - key / 2 % 2)) / 2 % 2 �
 pub change_off_lem : (key : ℕ) → changed (change_off key) ≡ false
 change_off_lem key = ne_eqb _ _ (λ z. let e : (key - 2 * (key / 2 % 2)) / 2 % 2 ≡ 0 = omega arith in omega arith)
 
-pub taken_changed : (ks new : List ℕ) → policies.KeysKept ks new → (g : ℕ) → changed (get_or new g 0) ≡ changed (get_or ks g 0)
-taken_changed ks new k g = elim (k.each g) [ inl e ↦ ap changed e | inr e ↦ ap changed e ∙ changed_off (get_or ks g 0) ]
-
-pub changed_set : (ks : List ℕ) (f key : ℕ) → f < length ks → changed key ≡ changed (get_or ks f 0) → (g : ℕ) → changed (get_or (set ks f key) g 0) ≡ changed (get_or ks g 0)
-changed_set ks f key h e g = elim (cases_eq g f) [
-  | inl q ↦ ap (λ x. changed (get_or (set ks f key) x 0)) q ∙ ap changed (get_or-set_same ks f key 0 h) ∙ e ∙ ap (λ x. changed (get_or ks x 0)) (sym q)
-  | inr q ↦ ap changed (get_or-set_other ks f g key 0 q)
-]
-
--- Two page numbers not below K are in one slot only if they are one.
-slots_apart : (k p q : ℕ) → k ≤ p → k ≤ q → (p ≡ q → ⊥) → p - k ≡ q - k → ⊥
-slots_apart k p q a b ne e = ne (omega arith)
-
 -- Bit 15 is 0 or 1.
 pub bit_is : (h : ℕ) → (h % 2 ≡ 0) ⊎ (h % 2 ≡ 1)
 bit_is h = elim (cases_eq (h % 2) 0) [ inl e ↦ inl e | inr e ↦ inr (omega arith) ]
@@ -108,15 +94,14 @@ module _ {S : Type 0} (r : stores.Rules S) (law : stores.Lawful r) (c : Config) 
     out_same =
         ap (λ m. r.slot m (q - c.supervisor)) (put_out_lem r st (q - c.supervisor) bytes (usable q key part) l)
         ∙ law.write_slot st (q - c.supervisor) bytes (q - c.supervisor) good (usable q key part) (usable q key part) l
-        ∙ ap (λ b. cond b bytes (r.slot st (q - c.supervisor))) (eq-eqb (q - c.supervisor) (q - c.supervisor) refl)
+        ∙ cond-true _ bytes (r.slot st (q - c.supervisor)) (eq-eqb (q - c.supervisor) (q - c.supervisor) refl)
 
     pub out_other : (p y : ℕ) → key_of c.partitions p ≡ Some y → (p ≡ q → ⊥)
         → r.slot (put_out r st (q - c.supervisor) bytes) (p - c.supervisor) ≡ r.slot st (p - c.supervisor)
     out_other p y e ne =
         ap (λ m. r.slot m (p - c.supervisor)) (put_out_lem r st (q - c.supervisor) bytes (usable q key part) l)
         ∙ law.write_slot st (q - c.supervisor) bytes (p - c.supervisor) good (usable q key part) (usable p y e) l
-        ∙ ap (λ b. cond b bytes (r.slot st (p - c.supervisor)))
-        (ne_eqb _ _ (slots_apart c.supervisor p q (fit.keys p y e).0 (fit.keys q key part).0 ne))
+        ∙ cond-false _ bytes (r.slot st (p - c.supervisor)) (ne_eqb _ _ (λ z. let a = (fit.keys p y e).0 in let b = (fit.keys q key part).0 in ne (omega arith)))
 
 -- Other records with the same pages.
 pub entries_pages : (c : Config) (rs new : List FrameRecord) (s : List ℕ) → Entries c rs s → ((g : ℕ) → page_in new g ≡ page_in rs g) → Entries c new s
@@ -142,7 +127,7 @@ module _ {S : Type 0} (r : stores.Rules S) (law : stores.Lawful r) (c : Config) 
   q_in = fit.keys q key_of_lem.0 key_of_lem.1
 
   pub q_listed : q < 32 * segments c
-  q_listed = listed c fit q q_in.1
+  q_listed = frame_listed c fit rs tab f fp ne
 
   fl : f < length rs
   fl = in_table c fit rs tab f fp.1
@@ -150,9 +135,6 @@ module _ {S : Type 0} (r : stores.Rules S) (law : stores.Lawful r) (c : Config) 
   -- the page of another frame is another page
   other_page : (g : ℕ) → Pageable c g → (page_in rs g ≡ no_page → ⊥) → (g ≡ f → ⊥) → page_in rs g ≡ q → ⊥
   other_page g gp gn gf e = gf (tab.apart g f gp fp e gn)
-
-  other_listed : (g : ℕ) → Pageable c g → (page_in rs g ≡ no_page → ⊥) → page_in rs g < 32 * segments c
-  other_listed g gp gn = let n = tab.named g gp gn in listed c fit _ (fit.keys _ n.0 n.1).1
 
   -- vacated: the record names no page
   abbrev gone : FrameRecord
@@ -198,11 +180,8 @@ module _ {S : Type 0} (r : stores.Rules S) (law : stores.Lawful r) (c : Config) 
         | inr z ↦ ap (λ n. n / 2) (e_other c fit s ents.long q out q_listed p z) ∙ ents.outside p key e (gone_absent p z absent)
       ];
       rest = λ p pt lo e.
-          ap (λ n. n / 2) (e_other c fit s ents.long q out q_listed p (λ z. never (sym e ∙ ap (key_of c.partitions) z ∙ key_of_lem.1))) ∙ ents.rest p pt lo e;
+          ap (λ n. n / 2) (e_other c fit s ents.long q out q_listed p (λ z. cc key_of_lem.1)) ∙ ents.rest p pt lo e;
     }
-      where
-        never : None ≡ Some key_of_lem.0 → ⊥
-        never e = let z : ◌≡◌ {A = ℕ} 0 1 = cc in omega arith
 
     pub vacated_bit : bit15 (put_half s (entry_at q) out) q ≡ bit
     vacated_bit = ap (λ n. n % 2) (e_same c fit s ents.long q out q_listed small) ∙ (let v : out % 2 ≡ bit = omega arith in v)
@@ -245,10 +224,7 @@ module _ {S : Type 0} (r : stores.Rules S) (law : stores.Lawful r) (c : Config) 
       | inl z ↦ ap (λ x. get_or fixes x 0) z ∙ k.inside f fp ne ∙ unfixed
       | inr z ↦ k.outside p (gone_absent p z absent)
     ];
-    same = k.same ∙ sym (counted_same _ _ c.supervisor (c.frames - c.supervisor) (λ g a b. ap (λ n. ltb 0 n) (elim (cases_eq g f) [
-      | inl e ↦ ap (fixes_in (set rs f gone)) e ∙ fixes_here rs f gone fl ∙ ap (fixes_in rs) (sym e)
-      | inr e ↦ fixes_there rs f gone g e
-    ])));
+    same = k.same ∙ sym (counted_same _ _ c.supervisor (c.frames - c.supervisor) (λ g a b. ap (λ n. ltb 0 n) (fixes_kept rs f gone refl g)));
   }
 
   -- settled: bit 15 of the page's entry goes off, and the page is put out

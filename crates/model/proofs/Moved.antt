@@ -1,21 +1,21 @@
 -- A page connected, a byte stored, a count changed: what ties storage to the flat machine is kept.
-use Rattle.std.proofs.Common.{◌≡◌, ℕ, ◌+◌, ◌-◌, ◌*◌, ◌/◌, ◌%◌, ◌<◌, ◌≤◌, true, false, cond, eqb, ltb, List, length, get_or, set, Some, None, sym, ap, ◌∙◌, subst, inl, inr, arith}
+use Rattle.std.proofs.Common.{◌≡◌, ℕ, ◌+◌, ◌-◌, ◌*◌, ◌/◌, ◌%◌, ◌<◌, ◌≤◌, true, false, cond, eqb, ltb, List, length, get_or, set, Some, sym, refl, ap, ◌∙◌, subst, inl, inr, arith}
 use Rattle.std.proofs.lemmas.List.{get_or-set_same, get_or-set_other, length-set}
 use Rattle.std.proofs.lemmas.Bool.{both_ways, cases_eq, cases_lt}
 use Rattle.frames.specs.Keys.{changed}
 use Rattle.model.specs.declared.shape.FrameRecord.{FrameRecord}
 use Rattle.model.specs.Flat.{fixed_pages}
 use Rattle.model.specs.Law.{Fits, Pageable, Table}
-use Rattle.model.specs.Layout.{bit15, entry_at, fixed_in, fixes_in, key_of, no_page, page_in, segments}
+use Rattle.model.specs.Layout.{bit15, entry_at, fixed_in, fixes_in, key_of, no_page, page_in, segments, vacant}
 use Rattle.model.specs.World.{Config}
 use Rattle.model.proofs.Find.{counted_same, counted_up}
 use Rattle.model.proofs.Memory.{Absent, Content, Counts, Entries, backing}
-use Rattle.model.proofs.Own.{fixes_here, fixes_there, in_table, page_here, page_there, real_page}
+use Rattle.model.proofs.Own.{fixes_here, fixes_kept, fixes_there, frame_listed, get_or-set_alike, in_table, page_here, page_there, pages_kept, real_page}
 use Rattle.model.proofs.Place.{b_entry, b_long, b_other, b_same, b_segment, e_frame, f_long, f_other, f_same, listed}
 use Rattle.model.proofs.Ready.{after_entry, after_long, after_other, after_segment}
 use Rattle.pages.specs.Store as stores
 use Rattle.storage.specs.Bytes.{half, page, put_half, put_page, zeros}
-use Rattle.storage.proofs.Over.{elsewhere, laws}
+use Rattle.storage.specs.Over.{elsewhere, laws}
 
 -- A page that no frame has comes into frame f, which has none.
 module _ {S : Type 0} (r : stores.Rules S) (c : Config) (fit : Fits c) (rs : List FrameRecord) (tab : Table c rs) (s : List ℕ)
@@ -50,9 +50,6 @@ module _ {S : Type 0} (r : stores.Rules S) (c : Config) (fit : Fits c) (rs : Lis
   other : (g : ℕ) → (g ≡ f → ⊥) → page_in (set rs f come) g ≡ page_in rs g
   other g ne = page_there rs f come g ne
 
-  listed_page : (g : ℕ) → Pageable c g → (page_in rs g ≡ no_page → ⊥) → page_in rs g < 32 * segments c
-  listed_page g gp gn = let n = tab.named g gp gn in listed c fit _ (fit.keys _ n.0 n.1).1
-
   pub connected_entries : Entries c (set rs f come) s2
   connected_entries = record {
     long = after_long c fit s ents.long f p fp p_in.1 b bl;
@@ -65,18 +62,15 @@ module _ {S : Type 0} (r : stores.Rules S) (c : Config) (fit : Fits c) (rs : Lis
       | inr e ↦
           let old : page_in rs g ≡ no_page → ⊥ = λ z. gn (other g e ∙ z) in
           ap (λ x. half s2 (entry_at x) / 2) (other g e)
-          ∙ ap (λ n. n / 2) (after_other c fit s ents.long f p fp p_in.1 b bl (page_in rs g) (listed_page g gp old) (absent g gp)) ∙ ents.inside g gp old
+          ∙ ap (λ n. n / 2) (after_other c fit s ents.long f p fp p_in.1 b bl (page_in rs g) (frame_listed c fit rs tab g gp old) (absent g gp)) ∙ ents.inside g gp old
     ];
     outside = λ q y e a.
         let t = absent_then q a in
         let qv = (fit.keys q y e).1 in
         ap (λ n. n / 2) (after_other c fit s ents.long f p fp p_in.1 b bl q (listed c fit q qv) t.0) ∙ ents.outside q y e (t.1 (real_page c fit q y e));
     rest = λ q qt lo e.
-        ap (λ n. n / 2) (after_other c fit s ents.long f p fp p_in.1 b bl q qt (λ z. never (sym e ∙ ap (key_of c.partitions) z ∙ part))) ∙ ents.rest q qt lo e;
+        ap (λ n. n / 2) (after_other c fit s ents.long f p fp p_in.1 b bl q qt (λ z. cc)) ∙ ents.rest q qt lo e;
   }
-    where
-      never : None ≡ Some key → ⊥
-      never e = let z : ◌≡◌ {A = ℕ} 0 1 = cc in omega arith
 
   -- the frames after
   frame_here : page s2 (2048 * f) ≡ b
@@ -106,7 +100,7 @@ module _ {S : Type 0} (r : stores.Rules S) (c : Config) (fit : Fits c) (rs : Lis
           | inr e ↦
               let old : page_in rs g ≡ no_page → ⊥ = λ z. gn (other g e ∙ z) in
               subst (λ x. backing r c s2 st x ≡ page bytes (2048 * x)) (sym (other g e))
-              (q_behind (page_in rs g) (listed_page g gp old) (absent g gp) ∙ k.clean g gp old (ap changed (sym (get_or-set_other ks f g (16 * key) 0 e)) ∙ off))
+              (q_behind (page_in rs g) (frame_listed c fit rs tab g gp old) (absent g gp) ∙ k.clean g gp old (ap changed (sym (get_or-set_other ks f g (16 * key) 0 e)) ∙ off))
         ];
         outside = λ q y e a.
             let t = absent_then q a in
@@ -127,10 +121,7 @@ module _ {S : Type 0} (r : stores.Rules S) (c : Config) (fit : Fits c) (rs : Lis
       | inl z ↦ past q z
       | inr z ↦ k.outside q ((absent_then q a).1 z)
     ];
-    same = k.same ∙ sym (counted_same _ _ c.supervisor (c.frames - c.supervisor) (λ g x y. ap (λ n. ltb 0 n) (elim (cases_eq g f) [
-      | inl e ↦ ap (fixes_in (set rs f come)) e ∙ fixes_here rs f come fl ∙ ap (fixes_in rs) (sym e)
-      | inr e ↦ fixes_there rs f come g e
-    ])));
+    same = k.same ∙ sym (counted_same _ _ c.supervisor (c.frames - c.supervisor) (λ g x y. ap (λ n. ltb 0 n) (fixes_kept rs f come refl g)));
   }
     where
       -- no page has the number for none
@@ -143,15 +134,12 @@ module _ {S : Type 0} (r : stores.Rules S) (c : Config) (fit : Fits c) (rs : Lis
   abbrev s1 : List ℕ
   s1 = set s (2048 * f + i) v
 
-  named_page : (g : ℕ) → Pageable c g → (page_in rs g ≡ no_page → ⊥) → page_in rs g < 32 * segments c
-  named_page g gp gn = let n = tab.named g gp gn in listed c fit _ (fit.keys _ n.0 n.1).1
-
   pub stored_entries : Entries c rs s1
   stored_entries = record {
     long = b_long c fit s ents.long f i v fp il;
     segs = λ g h. b_segment c fit s ents.long f i v fp il g h ∙ ents.segs g h;
     low = λ q h. ap (λ n. n / 2) (b_entry c fit s ents.long f i v fp il q (let a = fit.more in omega arith)) ∙ ents.low q h;
-    inside = λ g gp gn. ap (λ n. n / 2) (b_entry c fit s ents.long f i v fp il (page_in rs g) (named_page g gp gn)) ∙ ents.inside g gp gn;
+    inside = λ g gp gn. ap (λ n. n / 2) (b_entry c fit s ents.long f i v fp il (page_in rs g) (frame_listed c fit rs tab g gp gn)) ∙ ents.inside g gp gn;
     outside = λ q y e a. ap (λ n. n / 2) (b_entry c fit s ents.long f i v fp il q (listed c fit q (fit.keys q y e).1)) ∙ ents.outside q y e a;
     rest = λ q qt lo e. ap (λ n. n / 2) (b_entry c fit s ents.long f i v fp il q qt) ∙ ents.rest q qt lo e;
   }
@@ -187,7 +175,7 @@ module _ {S : Type 0} (r : stores.Rules S) (c : Config) (fit : Fits c) (rs : Lis
         clean = λ g gp gn off. elim (cases_eq g f) [
           | inl e ↦ absurd (both_ways (changed (get_or (set ks f mark) f 0)) (subst (λ x. changed (get_or (set ks f mark) x 0) ≡ false) e off) (ap changed (get_or-set_same ks f mark 0 k256) ∙ on))
           | inr e ↦
-              behind (page_in rs g) (named_page g gp gn) ∙ k.clean g gp gn (ap changed (sym (get_or-set_other ks f g mark 0 e)) ∙ off)
+              behind (page_in rs g) (frame_listed c fit rs tab g gp gn) ∙ k.clean g gp gn (ap changed (sym (get_or-set_other ks f g mark 0 e)) ∙ off)
               ∙ sym (flat_other bytes p (page_in rs g) k.long (valid g gp gn) (other_page g gp gn e))
         ];
         outside = λ q y e a.
@@ -205,7 +193,7 @@ module _ (c : Config) (fit : Fits c) (rs : List FrameRecord) (tab : Table c rs) 
   row = in_table c fit rs tab f fp.1
 
   pages_same : (g : ℕ) → page_in with_count g ≡ page_in rs g
-  pages_same g = elim (cases_eq g f) [ inl e ↦ ap (page_in with_count) e ∙ page_here rs f _ row ∙ ap (page_in rs) (sym e) | inr e ↦ page_there rs f _ g e ]
+  pages_same = pages_kept rs f _ refl
 
   p_fits : page_in rs f < length fixes
   p_fits = let m = tab.named f fp ne in let l = k.long in let h = (fit.keys _ m.0 m.1).1 in omega arith
@@ -233,15 +221,9 @@ module _ (c : Config) (fit : Fits c) (rs : List FrameRecord) (tab : Table c rs) 
   -- positive as before: both totals stay
   pub total_stays : ltb 0 n ≡ ltb 0 (fixes_in rs f) → fixed_pages (set fixes (page_in rs f) n) 0 c.pages ≡ fixed_in with_count c.supervisor (c.frames - c.supervisor)
   total_stays e =
-      counted_same (λ q. ltb 0 (get_or fixes q 0)) (λ q. ltb 0 (get_or (set fixes (page_in rs f) n) q 0)) 0 c.pages (λ q a b. elim (cases_eq q (page_in rs f)) [
-        | inl z ↦ ap (λ x. ltb 0 (get_or (set fixes (page_in rs f) n) x 0)) z ∙ ap (λ x. ltb 0 x) (get_or-set_same fixes (page_in rs f) n 0 p_fits) ∙ e ∙ ap (λ x. ltb 0 x) (sym (k.inside f fp ne)) ∙ ap (λ x. ltb 0 (get_or fixes x 0)) (sym z)
-        | inr z ↦ ap (λ x. ltb 0 x) (get_or-set_other fixes (page_in rs f) q n 0 z)
-      ])
+      counted_same (λ q. ltb 0 (get_or fixes q 0)) (λ q. ltb 0 (get_or (set fixes (page_in rs f) n) q 0)) 0 c.pages (λ q a b. get_or-set_alike (λ x. ltb 0 x) fixes (page_in rs f) n 0 (e ∙ ap (λ x. ltb 0 x) (sym (k.inside f fp ne))) q)
       ∙ k.same
-      ∙ sym (counted_same (λ g. ltb 0 (fixes_in rs g)) (λ g. ltb 0 (fixes_in with_count g)) c.supervisor (c.frames - c.supervisor) (λ g a b. elim (cases_eq g f) [
-        | inl z ↦ ap (λ x. ltb 0 (fixes_in with_count x)) z ∙ ap (λ x. ltb 0 x) (fixes_here rs f _ row) ∙ e ∙ ap (λ x. ltb 0 (fixes_in rs x)) (sym z)
-        | inr z ↦ ap (λ x. ltb 0 x) (fixes_there rs f _ g z)
-      ]))
+      ∙ sym (counted_same (λ g. ltb 0 (fixes_in rs g)) (λ g. ltb 0 (fixes_in with_count g)) c.supervisor (c.frames - c.supervisor) (λ g a b. get_or-set_alike (λ (x : FrameRecord). ltb 0 x.fixes) rs f _ vacant e g))
 
   f_in : (c.supervisor ≤ f) × (f < c.supervisor + (c.frames - c.supervisor))
   f_in = (fp.0, let a = fp.1 in let b = fit.some in omega arith)

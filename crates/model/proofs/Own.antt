@@ -1,7 +1,7 @@
 -- The parts that are the machine's own, one by one: what keeps each of them.
-use Rattle.std.proofs.Common.{◌≡◌, ℕ, ◌+◌, ◌-◌, ◌*◌, ◌/◌, ◌%◌, ◌<◌, ◌≤◌, cond, ltb, ◌⊎◌, List, length, get_or, set, Some, None, Ok, Option, Result, sym, refl, ap, ◌∙◌, subst, inl, inr, arith}
+use Rattle.std.proofs.Common.{◌≡◌, ℕ, ◌+◌, ◌-◌, ◌*◌, ◌/◌, ◌%◌, ◌<◌, ◌≤◌, ltb, ◌⊎◌, List, length, get_or, set, Some, None, Ok, Option, Result, sym, refl, ap, ◌∙◌, subst, inl, inr, arith}
 use Rattle.std.proofs.lemmas.List.{get_or-set_same, get_or-set_other, length-set, set_past}
-use Rattle.std.proofs.lemmas.Bool.{cases_eq, cases_lt, eq-eqb, lt-ltb, le-ltb}
+use Rattle.std.proofs.lemmas.Bool.{cases_eq, cases_lt, cond_both, eq-eqb, lt-ltb, ltb-false, ltb-true}
 use Rattle.frames.specs.Keys.{access_of, reference_off, reference_on}
 use Rattle.frames.specs.Policy as policies
 use Rattle.model.specs.declared.shape.FrameRecord.{FrameRecord}
@@ -9,9 +9,9 @@ use Rattle.model.specs.Law.{Fits, Holding, Keyed, Pageable, Paired, Slots, Table
 use Rattle.model.specs.Layout.{controls_of, entry_at, entry_for, entry_should, fixes_in, frame_of, key_of, no_page, out_entry, page_in, segment_at, segment_entries, segment_word, segments, vacant}
 use Rattle.model.specs.Steps.{change_off, change_on, put_out, read_in}
 use Rattle.model.specs.World.{Config}
+use Rattle.model.proofs.Place.{listed}
 use Rattle.model.proofs.Walks.{Led, only_small, passes, small, small_named, walk_led, walks_to}
 use Rattle.model.proofs.Find.{frame_some}
-use Rattle.pages.specs.declared.fault.StoreRefusal.TheVariants.{BadSlot, NoSuchSlot, WrongLength}
 use Rattle.pages.specs.Store as stores
 use Rattle.storage.specs.Bytes.{half, word}
 use Rattle.tables.specs.declared.Controls.{Controls}
@@ -20,12 +20,15 @@ use Rattle.tables.specs.Walk.{byte_index, checked, located, page_bytes, page_num
 use Rattle.tables.proofs.Led.{located_at}
 use Rattle.translation.specs.Translator as translators
 
--- An entry that names a frame, and one that does not.
-eighth : (h f : ℕ) → h / 2 ≡ 4 * f → h / 8 ≡ f
-eighth h f e = omega arith
-
-not_valid : (n v : ℕ) → n ≡ v → n % 4 ≡ 0 → v % 4 ≡ 2 → ⊥
-not_valid n v e a b = let q : v % 4 ≡ 0 = ap (λ x. x % 4) (sym e) ∙ a in omega arith
+-- One element changed to a value of which f says the same.
+pub get_or-set_alike : {A B : Type 0} (f : A → B) (xs : List A) (i : ℕ) (v d : A) → f v ≡ f (get_or xs i d) → (j : ℕ) → f (get_or (set xs i v) j d) ≡ f (get_or xs j d)
+get_or-set_alike f xs i v d e j = elim (cases_eq j i) [
+  | inl q ↦ elim (cases_lt i (length xs)) [
+    | inl l ↦ ap (λ k. f (get_or (set xs i v) k d)) q ∙ ap f (get_or-set_same xs i v d l) ∙ e ∙ ap (λ k. f (get_or xs k d)) (sym q)
+    | inr l ↦ ap (λ ys. f (get_or ys j d)) (set_past xs i v l)
+  ]
+  | inr q ↦ ap f (get_or-set_other xs i j v d q)
+]
 
 -- One record changed.
 module _ (rs : List FrameRecord) (f : ℕ) (v : FrameRecord) where
@@ -41,11 +44,22 @@ module _ (rs : List FrameRecord) (f : ℕ) (v : FrameRecord) where
   pub fixes_there : (g : ℕ) → (g ≡ f → ⊥) → fixes_in (set rs f v) g ≡ fixes_in rs g
   fixes_there g ne = ap (λ (x : FrameRecord). x.fixes) (get_or-set_other rs f g v vacant ne)
 
+  -- to one with the same page, or the same count
+  pub pages_kept : v.page ≡ page_in rs f → (g : ℕ) → page_in (set rs f v) g ≡ page_in rs g
+  pages_kept = get_or-set_alike (λ (x : FrameRecord). x.page) rs f v vacant
+
+  pub fixes_kept : v.fixes ≡ fixes_in rs f → (g : ℕ) → fixes_in (set rs f v) g ≡ fixes_in rs g
+  fixes_kept = get_or-set_alike (λ (x : FrameRecord). x.fixes) rs f v vacant
+
 -- A page of a partition is not the number for none.
 pub real_page : (c : Config) → Fits c → (p key : ℕ) → key_of c.partitions p ≡ Some key → p ≡ no_page → ⊥
 real_page c fit p key e z = let k = fit.keys p key e in let l = k.1 in let m = fit.most in omega arith
 
 module _ (c : Config) (fit : Fits c) (rs : List FrameRecord) (t : Table c rs) where
+  -- the page that a frame has is listed in the tables
+  pub frame_listed : (f : ℕ) → Pageable c f → (page_in rs f ≡ no_page → ⊥) → page_in rs f < 32 * segments c
+  frame_listed f fp ne = let n = t.named f fp ne in listed c fit _ (fit.keys _ n.0 n.1).1
+
   pub in_table : (f : ℕ) → f < c.frames → f < length rs
   in_table f h = let l = t.long in let k = fit.few in omega arith
 
@@ -101,6 +115,9 @@ module _ (c : Config) (fit : Fits c) (rs : List FrameRecord) (t : Table c rs) wh
 
 -- Storage keys.
 module _ (c : Config) (fit : Fits c) (rs : List FrameRecord) (ks : List ℕ) (k : Keyed c rs ks) where
+  pub in_keys : (f : ℕ) → f < c.frames → f < length ks
+  in_keys f h = let l = k.long in let n = fit.few in omega arith
+
   -- access keys that stay
   pub keyed_keys : (new : List ℕ) → length new ≡ length ks → ((g : ℕ) → access_of (get_or new g 0) ≡ access_of (get_or ks g 0)) → Keyed c rs new
   keyed_keys new l same = record {
@@ -119,16 +136,6 @@ module _ (c : Config) (fit : Fits c) (rs : List FrameRecord) (ks : List ℕ) (k 
     ];
   }
 
--- A key of one frame changed, and not its access key.
-pub access_set : (ks : List ℕ) (f key : ℕ) → access_of key ≡ access_of (get_or ks f 0) → (g : ℕ) → access_of (get_or (set ks f key) g 0) ≡ access_of (get_or ks g 0)
-access_set ks f key e g = elim (cases_eq g f) [
-  | inl q ↦ elim (cases_lt f (length ks)) [
-    | inl l ↦ ap (λ x. access_of (get_or (set ks f key) x 0)) q ∙ ap access_of (get_or-set_same ks f key 0 l) ∙ e ∙ ap (λ x. access_of (get_or ks x 0)) (sym q)
-    | inr l ↦ ap (λ x. access_of (get_or x g 0)) (set_past ks f key l)
-  ]
-  | inr q ↦ ap access_of (get_or-set_other ks f g key 0 q)
-]
-
 -- Bits of a key do not reach its access key, nor one bit the other.
 pub access_off : (key : ℕ) → access_of (reference_off key) ≡ access_of key
 access_off key = omega arith
@@ -142,8 +149,10 @@ access_change_on key = omega arith
 pub access_change_off : (key : ℕ) → access_of (change_off key) ≡ access_of key
 access_change_off key = omega arith
 
-pub taken_access : (ks new : List ℕ) → policies.KeysKept ks new → (g : ℕ) → access_of (get_or new g 0) ≡ access_of (get_or ks g 0)
-taken_access ks new k g = elim (k.each g) [ inl e ↦ ap access_of e | inr e ↦ ap access_of e ∙ access_off (get_or ks g 0) ]
+-- Take keeps of every key what f reads of it, where f does not read the reference bit.
+pub taken_alike : {A : Type 0} (f : ℕ → A) → ((key : ℕ) → f (reference_off key) ≡ f key) → (ks new : List ℕ) → policies.KeysKept ks new
+    → (g : ℕ) → f (get_or new g 0) ≡ f (get_or ks g 0)
+taken_alike f off ks new k g = elim (k.each g) [ inl e ↦ ap f e | inr e ↦ ap f e ∙ off (get_or ks g 0) ]
 
 -- Holdings.
 pub holding_same : {P : Type 0} (r : policies.Rules P) (c : Config) (rs new : List FrameRecord) (m n : P) → Holding r c rs m
@@ -164,10 +173,7 @@ module _ {T : Type 0} (r : translators.Rules T) (c : Config) (rs : List FrameRec
 
 -- Slots.
 pub usable_passes : {S : Type 0} (r : stores.Rules S) (m : S) (k n : ℕ) → stores.Usable r m k → n ≡ 2048 → stores.refusal_at r m k n ≡ None
-usable_passes r m k n u l =
-    ap (λ b. cond b (cond (ltb k (r.count m)) (cond (r.bad m k) (Some BadSlot) None) (Some NoSuchSlot)) (Some WrongLength)) (eq-eqb n 2048 l)
-    ∙ ap (λ b. cond b (cond (r.bad m k) (Some BadSlot) None) (Some NoSuchSlot)) (lt-ltb _ _ u.0)
-    ∙ ap (λ b. cond b (Some BadSlot) None) u.1
+usable_passes r m k n u l = simp (eq-eqb n 2048 l, lt-ltb k (r.count m) u.0, u.1)
 
 -- a page put out to a slot that can be used, and a slot read
 pub put_out_lem : {S : Type 0} (r : stores.Rules S) (m : S) (k : ℕ) (page : List ℕ) → stores.Usable r m k → length page ≡ 2048 → put_out r m k page ≡ r.write m k page
@@ -252,28 +258,26 @@ module _ (c : Config) (fit : Fits c) (rs : List FrameRecord) (tab : Table c rs) 
       let st = l.starts in
       let n = fit.few in
       let fn = k.0.1 in
-      let q : half s (entry_at p) / 8 ≡ f = eighth (half s (entry_at p)) f (omega arith) in
       (f, k.0.1, k.1, (fit.keys p key part).1, omega arith)
-  from_frame p key start None part e h l = absurd (not_valid (half s (entry_at p) / 2) (2 + 8 * key) (omega arith) l.valid (omega arith))
+  from_frame p key start None part e h l = let v = l.valid in absurd (omega arith)
 
   from_key : (p start : ℕ) (o : Option ℕ) → c.supervisor ≤ p → key_of c.partitions p ≡ o → half s (entry_at p) / 2 ≡ out_entry c s rs p o / 2
       → Led c fit s long p start → Framed p start
-  from_key p start None low e h l = absurd (not_valid (half s (entry_at p) / 2) 16386 h l.valid (omega arith))
+  from_key p start None low e h l = let v = l.valid in absurd (omega arith)
   from_key p start (Some key) low e h l = from_frame p key start (frame_of c s rs p) e refl h l
 
   pub led_frame : (p start : ℕ) → Led c fit s long p start → Framed p start
-  led_frame p start l = elim (cases_lt p c.supervisor) [
-    | inl lo ↦
-        let e : half s (entry_at p) / 2 ≡ (8 * p + 1) / 2 = ents p l.listed ∙ ap (λ b. cond b (8 * p + 1) (out_entry c s rs p (key_of c.partitions p)) / 2) (lt-ltb _ _ lo) in
-        let st = l.starts in
-        let q : half s (entry_at p) / 8 ≡ p = eighth (half s (entry_at p)) p (omega arith) in
-        let m = fit.some in
-        let n = fit.more in
-        let w = fit.few in
-        (p, omega arith, tab.supervisor p lo, omega arith, omega arith)
-    | inr hi ↦ from_key p start (key_of c.partitions p) hi refl
-        (ents p l.listed ∙ ap (λ b. cond b (8 * p + 1) (out_entry c s rs p (key_of c.partitions p)) / 2) (le-ltb _ _ hi)) l
-  ]
+  led_frame p start l =
+      cond_both (ltb p c.supervisor) (8 * p + 1) (out_entry c s rs p (key_of c.partitions p)) (λ e. half s (entry_at p) / 2 ≡ e / 2 → Framed p start)
+      (λ t e.
+      let lo = ltb-true _ _ t in
+      let st = l.starts in
+      let m = fit.some in
+      let n = fit.more in
+      let w = fit.few in
+      (p, omega arith, tab.supervisor p lo, omega arith, omega arith))
+      (λ t e. from_key p start (key_of c.partitions p) (ltb-false _ _ t) refl e l)
+      (ents p l.listed)
 
   pub agrees_frame : (p start : ℕ) → translators.Agrees s (controls_of c) p start → Framed p start
   agrees_frame p start g =

@@ -6,7 +6,7 @@ use Rattle.model.specs.Layout.{entry_at, segment_at, segment_entries, segments}
 use Rattle.model.specs.World.{Config}
 use Rattle.storage.specs.Bytes.{half, page, put_half, put_page, word}
 use Rattle.storage.specs.Laws.{Within}
-use Rattle.storage.proofs.Over.{elsewhere, laws}
+use Rattle.storage.specs.Over.{elsewhere, laws}
 
 -- Two frames, or two page entries, do not meet.
 pub frames_apart : (f g : ℕ) → (g ≡ f → ⊥) → (2048 * g + 2048 ≤ 2048 * f) ⊎ (2048 * f + 2048 ≤ 2048 * g)

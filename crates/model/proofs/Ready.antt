@@ -2,19 +2,20 @@
 use Rattle.std.proofs.Common.{◌≡◌, ℕ, ◌+◌, ◌-◌, ◌*◌, ◌/◌, ◌%◌, ◌^◌, ◌<◌, ◌≤◌, Bool, true, false, cond, not, eqb, List, length, get_or, Some, None, Option, sym, refl, ap, ◌∙◌, subst, arith}
 use Rattle.std.proofs.lemmas.Bool.{and_parts, cases_eq, eqb-false, eq-eqb, and_from, false≢true, cond_both}
 use Rattle.frames.specs.Keys.{changed}
+use Rattle.model.specs.declared.shape.Request.{Request}
 use Rattle.model.specs.Law.{Consistent, Fits, Pageable}
 use Rattle.model.specs.Layout.{bit15, entry_at, entry_for, fixed_in, key_of, no_page, page_in, segment_at, segment_entries, segment_word, segments}
-use Rattle.model.specs.Refusals.{Request, full, tables_right, where_is}
+use Rattle.model.specs.Refusals.{full, tables_right, where_is}
 use Rattle.model.specs.Steps.{brought, brought_frame, emptied, emptying, faulted, read_in, taken, taken_frame, taking}
 use Rattle.model.specs.World.{Config, LawfulParts, Parts, World}
 use Rattle.model.proofs.Decoded.{Reached}
 use Rattle.model.proofs.Fault.{BodyOf, Brought, emptied_body, faulted_own, handed_to, slot_of}
 use Rattle.model.proofs.Find.{frame_none, frame_some, page_is_lem}
-use Rattle.model.proofs.Own.{read_in_lem}
+use Rattle.model.proofs.Own.{frame_listed, read_in_lem}
 use Rattle.model.proofs.Place.{e_long, e_other, e_same, e_segment, f_entry, f_long, f_segment, frame_fits, listed}
 use Rattle.pages.specs.Store as stores
 use Rattle.storage.specs.Bytes.{frame, half, put_half, put_page, word, zeros}
-use Rattle.storage.proofs.Over.{laws}
+use Rattle.storage.specs.Over.{laws}
 
 -- A page in frame f: its entries name it, and all is consistent.
 pub record Ready {T P S : Type 0} (r : Parts T P S) (p key : ℕ) (w : World T P S) (f : ℕ) (next : World T P S) : Type 0 where
@@ -107,7 +108,7 @@ module _ {T P S : Type 0} (r : Parts T P S) (law : LawfulParts r) (w : World T P
 
     -- the page that goes out has an entry
     out_listed : (page_in w.records into ≡ no_page → ⊥) → page_in w.records into < 32 * segments w.config
-    out_listed ne = let n = k.table.named into into_pageable ne in listed w.config k.fits _ (k.fits.keys _ n.0 n.1).1
+    out_listed = frame_listed w.config k.fits w.records k.table into into_pageable
 
     hollow_cases : (b : Bool) → not (eqb (page_in w.records into) no_page) ≡ b → (dirty : Bool)
         → (length (emptying r b dirty into (page_in w.records into) (taken r w)).storage ≡ 2048 * w.config.frames)

@@ -1,41 +1,62 @@
 -- Every call keeps the two machines side by side, and so does every run: the law over whole runs and over disturbed runs.
 use Rattle.std.proofs.Common.{◌≡◌, ℕ, zero, suc, ◌+◌, ◌-◌, ◌*◌, ◌/◌, ◌%◌, ◌<◌, ◌≤◌, Bool, true, false, cond, ◌&&◌, eqb, ltb, List, [], ◌∷◌, length, get_or, set, replicate, Some, None, Ok, Err, Option, Result, sym, refl, ap, ◌∙◌, subst, inl, inr, arith}
-use Rattle.std.proofs.lemmas.List.{get_or_past, get_or-replicate, length-replicate}
-use Rattle.std.proofs.lemmas.Bool.{and_from, cases_eq, cases_lt, eq-eqb, le-ltb, lt-ltb}
+use Rattle.std.specs.Result.{IsOk}
+use Rattle.std.proofs.lemmas.List.{length-replicate}
+use Rattle.std.proofs.lemmas.Bool.{and_from, cases_eq, cond-false, cond-true, cond_both, eq-eqb, false≢true, le-ltb, lt-ltb, ltb-false, ltb-true}
 use Rattle.frames.specs.Keys.{changed, reference_on}
-use Rattle.model.specs.declared.calls.Answer.{Answer}
-use Rattle.model.specs.declared.calls.Answer.TheVariants.{Byte, Done, Refused}
+use Rattle.model.specs.declared.calls.Reply.{Reply}
+use Rattle.model.specs.declared.calls.Reply.TheVariants.{Byte, Done}
 use Rattle.model.specs.declared.calls.Call.{Call}
 use Rattle.model.specs.declared.calls.Call.TheVariants.{Load, Store, Fix, Free, Purge, Settle}
-use Rattle.model.specs.declared.calls.IplRefusal.{IplRefusal}
-use Rattle.model.specs.declared.calls.IplRefusal.TheVariants.{Sizes, Partitions, Slot}
+use Rattle.model.specs.declared.calls.IplRefusal.TheVariants.{Sizes, Partitions}
 use Rattle.model.specs.declared.calls.Refusal.{Refusal}
 use Rattle.model.specs.declared.calls.Refusal.TheVariants.{Sizes as WrongLength, Tables}
 use Rattle.model.specs.declared.shape.FrameRecord.{FrameRecord}
+use Rattle.model.specs.declared.shape.Request.{Request}
 use Rattle.model.specs.Flat.{Flat, blank, byte_set, fixed_pages, fixes_set, flat, flat_done, flat_fix, flat_free, flat_load, flat_loaded, flat_store}
 use Rattle.model.specs.Ipl.{first_fault, fresh, ipl, own_pages, partition_entry, partitions_fit, sizes_fit, start_by, with_tables}
-use Rattle.model.specs.Law.{After, Consistent, Fits, LawOf, Pageable, Placed, Saved, Slots, Sound, Stands, SteadyOf, answered}
-use Rattle.model.specs.Layout.{controls_of, counted, entries_are, entry_at, entry_for, entry_is, entry_should, fixed_in, fixes_in, frame_of, frames_are, key_of, no_page, out_entry, page_in, segment_entries, segments, segments_are, vacant}
-use Rattle.model.specs.Refusals.{Request, and_then, decode_fix, decode_free, decode_load, decode_purge, decode_settle, decode_store, fixes_of, unless, where_is}
+use Rattle.model.specs.Law.{After, Consistent, Fits, LawOf, Pageable, Placed, Saved, Slots, Sound, Stands, SteadyOf}
+use Rattle.model.specs.Layout.{controls_of, counted, entries_are, entry_at, entry_for, entry_should, fixed_in, fixes_in, frame_of, frames_are, key_of, no_page, out_entry, page_in, segment_entries, segments, segments_are, vacant}
+use Rattle.model.specs.Refusals.{and_then, decode_fix, decode_free, decode_load, decode_purge, decode_settle, decode_store, fixes_of, unless, where_is}
 use Rattle.model.specs.Steps.{brought, brought_frame, byte_answer, change_on, done_answer, fix, fixed_in1, fixing, free, freed_in, freeing, load, loaded_in, loading, purge, purging, settle, store, stored_in, storing, sweeping, swept, worked}
 use Rattle.model.specs.World.{Config, GoodParts, LawfulParts, Parts, World}
-use Rattle.model.proofs.Answered.{Agree, Side, asked_is, byte_is, fix_agrees, free_agrees, load_agrees, placed, reached_mem, stands, store_agrees}
+use Rattle.model.proofs.Answered.{Side, agree_cases, asked_is, byte_is, fix_agrees, free_agrees, load_agrees, placed, reached_mem, stands, store_agrees}
 use Rattle.model.proofs.Beside.{Mem, frames_right, swept_mem}
 use Rattle.model.proofs.Decoded.{fix_ok, free_ok, load_ok, store_ok}
 use Rattle.model.proofs.Find.{all_entries, all_segments, frame_none, frame_some}
 use Rattle.model.proofs.Kept.{call_own, fixed_frame, loaded_own, ready_page, same_pages, steadies, stored_own}
-use Rattle.model.proofs.Memory.{Content, Counts, Entries, backing, bit_is, change_on_lem, changed_on, changed_set, content_keys, content_pages, entries_pages}
+use Rattle.model.proofs.Memory.{Content, Counts, Entries, backing, bit_is, change_on_lem, changed_on, content_keys, content_pages, entries_pages}
 use Rattle.model.proofs.Moved.{counted_to, stored_content, stored_entries, total_falls, total_rises, total_stays}
-use Rattle.model.proofs.Own.{agrees_frame, real_page}
+use Rattle.model.proofs.Own.{agrees_frame, get_or-set_alike, in_keys, real_page}
 use Rattle.model.proofs.Ready.{ready}
-use Rattle.model.proofs.Start.{first_entry_lem, first_holding, first_segment, first_table, fits_from, no_fault, no_fixes, no_page_lem, nobody, tables_long}
+use Rattle.model.proofs.Start.{first_entry_lem, first_holding, first_segment, first_table, fits_from, get_or-replicate_same, no_fault, no_fixes, no_page_lem, tables_long}
 use Rattle.storage.specs.Bytes.{half, page, zeros}
-use Rattle.storage.proofs.Over.{laws}
+use Rattle.storage.specs.Over.{laws}
+
+-- Every entry is what a purge tests it to be.
+module _ (c : Config) (fit : Fits c) (rs : List FrameRecord) (s : List ℕ) (ents : Entries c rs s) where
+  by_frame : (p key : ℕ) → key_of c.partitions p ≡ Some key → (o : Option ℕ) → frame_of c s rs p ≡ o → half s (entry_at p) / 2 ≡ entry_for key o / 2
+  by_frame p key part (Some f) e =
+      let h = frame_some c s rs fit.some p f e in
+      let i = ents.inside f h.0 (λ z. real_page c fit p key part (sym h.1 ∙ z)) in
+      let j : half s (entry_at p) / 2 ≡ 4 * f = ap (λ x. half s (entry_at x) / 2) (sym h.1) ∙ i in
+      omega arith
+  by_frame p key part None e = let o = ents.outside p key part (frame_none c s rs fit.some p e) in omega arith
+
+  by_key : (p : ℕ) → p < 32 * segments c → c.supervisor ≤ p → (o : Option ℕ) → key_of c.partitions p ≡ o → half s (entry_at p) / 2 ≡ out_entry c s rs p o / 2
+  by_key p h l None e = ents.rest p h l e
+  by_key p h l (Some key) e = by_frame p key e (frame_of c s rs p) refl
+
+  entries_right : (p : ℕ) → p < 32 * segments c → half s (entry_at p) / 2 ≡ entry_should c s rs p / 2
+  entries_right p h =
+      cond_both (ltb p c.supervisor) (8 * p + 1) (out_entry c s rs p (key_of c.partitions p)) (λ e. half s (entry_at p) / 2 ≡ e / 2)
+      (λ t. let z = ents.low p (ltb-true _ _ t) in omega arith)
+      (λ t. by_key p h (ltb-false _ _ t) (key_of c.partitions p) refl)
 
 module _ {T P S : Type 0} (r : Parts T P S) (law : LawfulParts r) where
   -- an outcome beside the flat machine's
-  abbrev KeptBy : Call → Answer × World T P S → Answer × Flat → Type 0
-  KeptBy c x y = (x.0 ≡ y.0) × (answered r x.0 → After r c x.1 y.1) × Side r law x.1 y.1
+  abbrev KeptBy : Call → Result Reply Refusal × World T P S → Result Reply Refusal × Flat → Type 0
+  KeptBy c x y = (x.0 ≡ y.0) × (IsOk x.0 → After r c x.1 y.1) × Side r law x.1 y.1
 
   module _ (w : World T P S) (k : Consistent r w) (bytes fixes : List ℕ) (m : Mem r w bytes fixes) where
     abbrev here : Flat
@@ -44,15 +65,11 @@ module _ {T P S : Type 0} (r : Parts T P S) (law : LawfulParts r) where
     stay : Side r law w here
     stay = record { mem = m; same = refl }
 
-    refused : (c : Call) (x y : Refusal) → x ≡ y → KeptBy c (Refused x, w) (Refused y, here)
-    refused c x y e = (ap Refused e, (λ z. absurd z), stay)
-
-    -- a frame's key marked: the change bit as it was
-    key_row : (next : World T P S) → Consistent r next → (f : ℕ) → Pageable next.config f → f < length next.keys
-    key_row next kn f fp = let l = kn.keyed.long in let a = fp.1 in let n = kn.fits.few in omega arith
+    refused : (c : Call) (x y : Refusal) → x ≡ y → KeptBy c (Err x, w) (Err y, here)
+    refused c x y e = (ap Err e, (λ z. absurd (false≢true z)), stay)
 
     load_done : (a key : ℕ) (q : Request) → decode_load w a key ≡ Ok q
-        → KeptBy (Load a key) (byte_answer (loading r a w (Ok q)).0, (loading r a w (Ok q)).1) (Byte (get_or bytes a 0), here)
+        → KeptBy (Load a key) (byte_answer (loading r a w (Ok q)).0, (loading r a w (Ok q)).1) (Ok (Byte (get_or bytes a 0)), here)
     load_done a key q e =
         let h = load_ok w a key q e in
         let d = ready r law w k (a / 2048) q h.0 h.1 in
@@ -65,16 +82,16 @@ module _ {T P S : Type 0} (r : Parts T P S) (law : LawfulParts r) where
         let ma : Mem r after bytes fixes = record {
           entries = mn.entries;
           content = content_keys r.store law.store next.config kn.fits next.records next.keys after.keys next.store next.storage bytes mn.content
-              (changed_set next.keys f (reference_on (get_or next.keys f 0)) (key_row next kn f d.brought.pageable) (changed_on (get_or next.keys f 0)));
+              (get_or-set_alike changed next.keys f (reference_on (get_or next.keys f 0)) 0 (changed_on (get_or next.keys f 0)));
           counts = mn.counts;
         } in (
-          ap Byte (ap (λ n. get_or next.storage n 0) (asked_is r law w next a q.key f d) ∙ byte_is r law next kn bytes fixes mn a q.key f d.part d.brought.pageable d.brought.has),
+          ap (λ n. Ok (Byte n)) (ap (λ n. get_or next.storage n 0) (asked_is r law w next a q.key f d) ∙ byte_is r law next kn bytes fixes mn a q.key f d.part d.brought.pageable d.brought.has),
           (λ _. stands r law after ka bytes fixes ma a q.key f d.part d.brought.pageable d.brought.has w.config),
           record { mem = ma; same = sym d.brought.same_config },
         )
 
     store_done : (a key byte : ℕ) (q : Request) → decode_store w a key ≡ Ok q
-        → KeptBy (Store a key byte) (done_answer (storing r a byte w (Ok q)).0, (storing r a byte w (Ok q)).1) (Done, byte_set here a byte)
+        → KeptBy (Store a key byte) (done_answer (storing r a byte w (Ok q)).0, (storing r a byte w (Ok q)).1) (Ok Done, byte_set here a byte)
     store_done a key byte q e =
         let h = store_ok w a key q e in
         let d = ready r law w k (a / 2048) q h.0 h.1 in
@@ -96,7 +113,7 @@ module _ {T P S : Type 0} (r : Parts T P S) (law : LawfulParts r) where
           content = subst (λ n. Content r.store next.config next.records after.keys next.store (set next.storage n byte) (set bytes a byte)) (sym at)
               (subst (λ n. Content r.store next.config next.records after.keys next.store (set next.storage (2048 * f + a % 2048) byte) (set bytes n byte)) whole
               (stored_content r.store next.config kn.fits next.records kn.table next.storage mn.entries f (a % 2048) byte fp ne il
-              next.keys (key_row next kn f fp) mark (change_on_lem (reference_on (get_or next.keys f 0))) next.store bytes mn.content));
+              next.keys (in_keys next.config kn.fits next.records next.keys kn.keyed f fp.1) mark (change_on_lem (reference_on (get_or next.keys f 0))) next.store bytes mn.content));
           counts = mn.counts;
         } in (
           refl,
@@ -118,7 +135,7 @@ module _ {T P S : Type 0} (r : Parts T P S) (law : LawfulParts r) where
         }
 
     fix_done : (p : ℕ) (q : Request) → decode_fix w p ≡ Ok q
-        → KeptBy (Fix p) (done_answer (fixing r w (Ok q)).0, (fixing r w (Ok q)).1) (Done, fixes_set here p (get_or fixes p 0 + 1))
+        → KeptBy (Fix p) (done_answer (fixing r w (Ok q)).0, (fixing r w (Ok q)).1) (Ok Done, fixes_set here p (get_or fixes p 0 + 1))
     fix_done p q e =
         let h = fix_ok w p q e in
         let d = ready r law w k p q h.0 h.1 in
@@ -146,7 +163,7 @@ module _ {T P S : Type 0} (r : Parts T P S) (law : LawfulParts r) where
         )
 
     free_done : (p : ℕ) (q : Request) → decode_free w p ≡ Ok q
-        → KeptBy (Free p) (done_answer (freeing r w (Ok q)).0, (freeing r w (Ok q)).1) (Done, fixes_set here p (get_or fixes p 0 - 1))
+        → KeptBy (Free p) (done_answer (freeing r w (Ok q)).0, (freeing r w (Ok q)).1) (Ok Done, fixes_set here p (get_or fixes p 0 - 1))
     free_done p q e =
         let h = free_ok w p q e in
         let g = fixed_frame r law w k p (where_is w p) refl h.1 in
@@ -173,68 +190,17 @@ module _ {T P S : Type 0} (r : Parts T P S) (law : LawfulParts r) where
           },
         )
 
-    -- by what the tests give on both sides
-    load_kept : (a key : ℕ) (d : Result Request Refusal) (f : Result (Unit {0}) Refusal) → decode_load w a key ≡ d → Agree r law d f
-        → KeptBy (Load a key) (byte_answer (loading r a w d).0, (loading r a w d).1) (flat_loaded here a f)
-    load_kept a key (Ok q) (Ok y) e g = load_done a key q e
-    load_kept a key (Ok q) (Err y) e g = absurd g
-    load_kept a key (Err x) (Ok y) e g = absurd g
-    load_kept a key (Err x) (Err y) e g = refused (Load a key) x y g
-
-    store_kept : (a key byte : ℕ) (d : Result Request Refusal) (f : Result (Unit {0}) Refusal) → decode_store w a key ≡ d → Agree r law d f
-        → KeptBy (Store a key byte) (done_answer (storing r a byte w d).0, (storing r a byte w d).1) (flat_done here (byte_set here a byte) f)
-    store_kept a key byte (Ok q) (Ok y) e g = store_done a key byte q e
-    store_kept a key byte (Ok q) (Err y) e g = absurd g
-    store_kept a key byte (Err x) (Ok y) e g = absurd g
-    store_kept a key byte (Err x) (Err y) e g = refused (Store a key byte) x y g
-
-    fix_kept : (p : ℕ) (d : Result Request Refusal) (f : Result (Unit {0}) Refusal) → decode_fix w p ≡ d → Agree r law d f
-        → KeptBy (Fix p) (done_answer (fixing r w d).0, (fixing r w d).1) (flat_done here (fixes_set here p (get_or fixes p 0 + 1)) f)
-    fix_kept p (Ok q) (Ok y) e g = fix_done p q e
-    fix_kept p (Ok q) (Err y) e g = absurd g
-    fix_kept p (Err x) (Ok y) e g = absurd g
-    fix_kept p (Err x) (Err y) e g = refused (Fix p) x y g
-
-    free_kept : (p : ℕ) (d : Result Request Refusal) (f : Result (Unit {0}) Refusal) → decode_free w p ≡ d → Agree r law d f
-        → KeptBy (Free p) (done_answer (freeing r w d).0, (freeing r w d).1) (flat_done here (fixes_set here p (get_or fixes p 0 - 1)) f)
-    free_kept p (Ok q) (Ok y) e g = free_done p q e
-    free_kept p (Ok q) (Err y) e g = absurd g
-    free_kept p (Err x) (Ok y) e g = absurd g
-    free_kept p (Err x) (Err y) e g = refused (Free p) x y g
-
-    -- every entry is what it should be
-    entry_right : (p : ℕ) → p < 32 * segments w.config → entry_is w.storage p (entry_should w.config w.storage w.records p) ≡ true
-    entry_right p h = eq-eqb _ _ (elim (cases_lt p w.config.supervisor) [
-      | inl l ↦
-          (let z = m.entries.low p l in let y : half w.storage (entry_at p) / 2 ≡ (8 * p + 1) / 2 = omega arith in y)
-          ∙ sym (ap (λ b. cond b (8 * p + 1) (out_entry w.config w.storage w.records p (key_of w.config.partitions p)) / 2) (lt-ltb _ _ l))
-      | inr l ↦ by_key (key_of w.config.partitions p) refl l
-          ∙ sym (ap (λ b. cond b (8 * p + 1) (out_entry w.config w.storage w.records p (key_of w.config.partitions p)) / 2) (le-ltb _ _ l))
-    ])
-      where
-        by_frame : (key : ℕ) → key_of w.config.partitions p ≡ Some key → (o : Option ℕ) → frame_of w.config w.storage w.records p ≡ o → half w.storage (entry_at p) / 2 ≡ entry_for key o / 2
-        by_frame key part (Some f) e =
-            let h = frame_some w.config w.storage w.records k.fits.some p f e in
-            let i = m.entries.inside f h.0 (λ z. real_page w.config k.fits p key part (sym h.1 ∙ z)) in
-            let j : half w.storage (entry_at p) / 2 ≡ 4 * f = ap (λ x. half w.storage (entry_at x) / 2) (sym h.1) ∙ i in
-            omega arith
-        by_frame key part None e = let o = m.entries.outside p key part (frame_none w.config w.storage w.records k.fits.some p e) in omega arith
-
-        by_key : (o : Option ℕ) → key_of w.config.partitions p ≡ o → w.config.supervisor ≤ p → half w.storage (entry_at p) / 2 ≡ out_entry w.config w.storage w.records p o / 2
-        by_key None e l = m.entries.rest p h l e
-        by_key (Some key) e l = by_frame key e (frame_of w.config w.storage w.records p) refl
-
     purge_passes : decode_purge w ≡ Ok tt
     unfolding decode_purge
     purge_passes =
         ap (λ b. and_then (unless b WrongLength) (λ _. unless (segments_are w.config w.storage 0 (segment_entries w.config) && entries_are w.config w.storage w.records 0 (32 * segments w.config)) Tables)) (eq-eqb _ _ m.entries.long)
         ∙ ap (λ b. unless b Tables) (and_from _ _
         (all_segments w.config w.storage 0 (segment_entries w.config) (λ g a b. m.entries.segs g (omega arith)))
-        (all_entries w.config w.storage w.records 0 (32 * segments w.config) (λ p a b. entry_right p (omega arith))))
+        (all_entries w.config w.storage w.records 0 (32 * segments w.config) (λ p a b. eq-eqb _ _ (entries_right w.config k.fits w.records w.storage m.entries p (omega arith)))))
 
-    purge_kept : KeptBy Purge (done_answer (purging r w (decode_purge w)).0, (purging r w (decode_purge w)).1) (Done, here)
+    purge_kept : KeptBy Purge (done_answer (purging r w (decode_purge w)).0, (purging r w (decode_purge w)).1) (Ok Done, here)
     purge_kept =
-        subst (λ x. KeptBy Purge (done_answer (purging r w x).0, (purging r w x).1) (Done, here)) (sym purge_passes)
+        subst (λ x. KeptBy Purge (done_answer (purging r w x).0, (purging r w x).1) (Ok Done, here)) (sym purge_passes)
         (refl, (λ _. tt), record { mem = record { entries = m.entries; content = m.content; counts = m.counts }; same = refl })
 
     settle_passes : decode_settle w ≡ Ok tt
@@ -260,14 +226,14 @@ module _ {T P S : Type 0} (r : Parts T P S) (law : LawfulParts r) where
       | inr z ↦ inr (z, sym e ∙ ap (λ n. cond (eqb n 1) zeros (r.store.slot next.store (p - next.config.supervisor))) z)
     ]
 
-    settle_kept : KeptBy Settle (done_answer (sweeping r w (decode_settle w)).0, (sweeping r w (decode_settle w)).1) (Done, here)
+    settle_kept : KeptBy Settle (done_answer (sweeping r w (decode_settle w)).0, (sweeping r w (decode_settle w)).1) (Ok Done, here)
     settle_kept =
         let n = w.config.frames - w.config.supervisor in
         let some = k.fits.some in
         let s = swept_mem r law w.config.supervisor n w k bytes fixes m (omega arith) (omega arith) (λ g a b ne. absurd (omega arith)) in
         let next = swept r w.config.supervisor n w in
         let kn = settled_consistent in
-        subst (λ x. KeptBy Settle (done_answer (sweeping r w x).0, (sweeping r w x).1) (Done, here)) (sym settle_passes) (
+        subst (λ x. KeptBy Settle (done_answer (sweeping r w x).0, (sweeping r w x).1) (Ok Done, here)) (sym settle_passes) (
           refl,
           (λ _ p key part. saved next w.config p (behind_all next s.same_config s.mem kn
               (λ g gp ne.
@@ -283,10 +249,18 @@ module _ {T P S : Type 0} (r : Parts T P S) (law : LawfulParts r) where
 
     kept_here : (c : Call) → KeptBy c (worked r c w) (flat c here)
     unfolding load store fix free purge settle
-    kept_here (Load a key) = load_kept a key (decode_load w a key) (flat_load here a key) refl (load_agrees r law w k bytes fixes m a key)
-    kept_here (Store a key byte) = store_kept a key byte (decode_store w a key) (flat_store here a key) refl (store_agrees r law w k bytes fixes m a key)
-    kept_here (Fix p) = fix_kept p (decode_fix w p) (flat_fix here p) refl (fix_agrees r law w k bytes fixes m p)
-    kept_here (Free p) = free_kept p (decode_free w p) (flat_free here p) refl (free_agrees r law w k bytes fixes m p)
+    kept_here (Load a key) =
+        agree_cases (λ d f. KeptBy (Load a key) (byte_answer (loading r a w d).0, (loading r a w d).1) (flat_loaded here a f))
+        (decode_load w a key) (flat_load here a key) (load_agrees r law w k bytes fixes m a key) (load_done a key) (refused (Load a key))
+    kept_here (Store a key byte) =
+        agree_cases (λ d f. KeptBy (Store a key byte) (done_answer (storing r a byte w d).0, (storing r a byte w d).1) (flat_done here (byte_set here a byte) f))
+        (decode_store w a key) (flat_store here a key) (store_agrees r law w k bytes fixes m a key) (store_done a key byte) (refused (Store a key byte))
+    kept_here (Fix p) =
+        agree_cases (λ d f. KeptBy (Fix p) (done_answer (fixing r w d).0, (fixing r w d).1) (flat_done here (fixes_set here p (get_or fixes p 0 + 1)) f))
+        (decode_fix w p) (flat_fix here p) (fix_agrees r law w k bytes fixes m p) (fix_done p) (refused (Fix p))
+    kept_here (Free p) =
+        agree_cases (λ d f. KeptBy (Free p) (done_answer (freeing r w d).0, (freeing r w d).1) (flat_done here (fixes_set here p (get_or fixes p 0 - 1)) f))
+        (decode_free w p) (flat_free here p) (free_agrees r law w k bytes fixes m p) (free_done p) (refused (Free p))
     kept_here Purge = purge_kept
     kept_here Settle = settle_kept
 
@@ -318,11 +292,11 @@ module _ {T P S : Type 0} (r : Parts T P S) (law : LawfulParts r) where
     low_entry : (p : ℕ) → p < c.supervisor → half s0 (entry_at p) ≡ 8 * p + 1
     low_entry p h =
         let more = fit.more in
-        first_entry_lem c fit w.storage long p (omega arith) ∙ ap (λ b. cond b (8 * p + 1) (partition_entry (key_of c.partitions p))) (lt-ltb _ _ h)
+        first_entry_lem c fit w.storage long p (omega arith) ∙ cond-true _ (8 * p + 1) (partition_entry (key_of c.partitions p)) (lt-ltb _ _ h)
 
     high_entry : (p : ℕ) (o : Option ℕ) → p < 32 * segments c → c.supervisor ≤ p → key_of c.partitions p ≡ o → half s0 (entry_at p) ≡ partition_entry o
     high_entry p o pt h e =
-        first_entry_lem c fit w.storage long p pt ∙ ap (λ b. cond b (8 * p + 1) (partition_entry (key_of c.partitions p))) (le-ltb _ _ h) ∙ ap partition_entry e
+        first_entry_lem c fit w.storage long p pt ∙ cond-false _ (8 * p + 1) (partition_entry (key_of c.partitions p)) (le-ltb _ _ h) ∙ ap partition_entry e
 
     part_entry : (p key : ℕ) → key_of c.partitions p ≡ Some key → half s0 (entry_at p) ≡ 5 + 16 * key
     part_entry p key e = let i = fit.keys p key e in let b = i.1 in high_entry p (Some key) (omega arith) i.0 e
@@ -349,9 +323,6 @@ module _ {T P S : Type 0} (r : Parts T P S) (law : LawfulParts r) where
           ∙ sym (laws.pages.blank (2048 * c.pages) (2048 * p) (omega arith));
     }
 
-    zero_at : (n p : ℕ) → get_or {A = ℕ} (replicate n 0) p 0 ≡ 0
-    zero_at n p = elim (cases_lt p n) [ inl l ↦ get_or-replicate n p 0 0 l | inr l ↦ get_or_past (replicate n 0) p 0 (let a = length-replicate {A = ℕ} n 0 in omega arith) ]
-
     none_counted : (test : ℕ → Bool) (f n : ℕ) → ((g : ℕ) → f ≤ g → test g ≡ false) → counted test f n ≡ 0
     unfolding counted
     none_counted test f zero h = refl
@@ -361,32 +332,14 @@ module _ {T P S : Type 0} (r : Parts T P S) (law : LawfulParts r) where
     first_counts = record {
       long = length-replicate {A = ℕ} c.pages 0;
       inside = λ f fp ne. absurd (ne (no_page_lem c fit f fp.0));
-      outside = λ p a. zero_at c.pages p;
+      outside = λ p a. get_or-replicate_same c.pages p 0;
       same =
-          none_counted (λ q. ltb 0 (get_or (replicate c.pages 0) q 0)) 0 c.pages (λ g a. ap (λ n. ltb 0 n) (zero_at c.pages g))
+          none_counted (λ q. ltb 0 (get_or (replicate c.pages 0) q 0)) 0 c.pages (λ g a. ap (λ n. ltb 0 n) (get_or-replicate_same c.pages g 0))
           ∙ sym (none_counted (λ g. ltb 0 (fixes_in rows g)) c.supervisor (c.frames - c.supervisor) (λ g a. ap (λ n. ltb 0 n) (no_fixes c fit g a)));
     }
 
     pub started_side : Side r law (fresh r c w) (blank c)
     started_side = record { mem = record { entries = first_entries; content = first_content; counts = first_counts }; same = refl }
-
-    -- the entries as a purge would test them
-    first_should : (p : ℕ) → p < 32 * segments c → half s0 (entry_at p) / 2 ≡ entry_should c s0 rows p / 2
-    first_should p pt = elim (cases_lt p c.supervisor) [
-      | inl l ↦
-          ap (λ n. n / 2) (low_entry p l)
-          ∙ sym (ap (λ b. cond b (8 * p + 1) (out_entry c s0 rows p (key_of c.partitions p)) / 2) (lt-ltb _ _ l))
-      | inr l ↦ by_key (key_of c.partitions p) refl l
-          ∙ sym (ap (λ b. cond b (8 * p + 1) (out_entry c s0 rows p (key_of c.partitions p)) / 2) (le-ltb _ _ l))
-    ]
-      where
-        by_frame : (key : ℕ) → key_of c.partitions p ≡ Some key → (o : Option ℕ) → frame_of c s0 rows p ≡ o → half s0 (entry_at p) / 2 ≡ entry_for key o / 2
-        by_frame key e (Some f) q = let h = frame_some c s0 rows fit.some p f q in absurd (nobody c fit p key e f h.0 h.1)
-        by_frame key e None q = ap (λ n. n / 2) (part_entry p key e) ∙ (let z : (5 + 16 * key) / 2 ≡ (4 + 16 * key) / 2 = omega arith in z)
-
-        by_key : (o : Option ℕ) → key_of c.partitions p ≡ o → c.supervisor ≤ p → half s0 (entry_at p) / 2 ≡ out_entry c s0 rows p o / 2
-        by_key None e l = ap (λ n. n / 2) (high_entry p None pt l e)
-        by_key (Some key) e l = by_frame key e (frame_of c s0 rows p) refl
 
     pub started_own : Consistent r (fresh r c w)
     started_own =
@@ -402,42 +355,31 @@ module _ {T P S : Type 0} (r : Parts T P S) (law : LawfulParts r) where
           holding = h.1;
           paired = record {
             words = law.translator.load_controls w.translator s0 (controls_of c) good.translator;
-            each = λ p start v. agrees_frame c fit rows (first_table c fit) s0 sl (first_segment c fit w.storage long) first_should p start
+            each = λ p start v. agrees_frame c fit rows (first_table c fit) s0 sl (first_segment c fit w.storage long) (entries_right c fit rows s0 first_entries) p start
                 (law.translator.load_agrees w.translator s0 (controls_of c) p start good.translator v);
           };
           slots = slots;
         }
 
   -- an answered IPL has passed its tests
-  pub record Started (c : Config) (w : World T P S) : Type 0 where
+  pub record Started (c : Config) (w left : World T P S) : Type 0 where
     pub fits : Fits c
     pub long : length w.storage ≡ 2048 * c.frames
     pub slots : Slots r.store c w.store
-    pub leaves : (ipl r c w).1 ≡ fresh r c w
+    pub leaves : left ≡ fresh r c w
 
   started_cases : (c : Config) (w : World T P S) (a b : Bool) (o : Option _) → sizes_fit c w.storage ≡ a → partitions_fit c ≡ b → first_fault r.store w.store 0 (c.pages - c.supervisor) ≡ o
-      → ipl r c w ≡ cond a (cond b (start_by r c w o) (Err Partitions, w)) (Err Sizes, w) → (ipl r c w).0 ≡ Ok tt → Started c w
-  started_cases c w true true None x y z e ok =
+      → (cond a (cond b (start_by r c w o) (Err Partitions, w)) (Err Sizes, w)).0 ≡ Ok tt → Started c w (cond a (cond b (start_by r c w o) (Err Partitions, w)) (Err Sizes, w)).1
+  started_cases c w true true None x y z ok =
       let f = fits_from c w.storage x y in
-      record {
-        fits = f.0;
-        long = f.1;
-        slots = λ k h. no_fault r.store w.store 0 (c.pages - c.supervisor) z k (omega arith) (omega arith);
-        leaves = ap (λ (q : Result (Unit {0}) IplRefusal × World T P S). q.1) e;
-      }
-  started_cases c w true true (Some f) x y z e ok =
-      let q : ◌≡◌ {A = Result (Unit {0}) IplRefusal} (Err (Slot f)) (Ok tt) = sym (ap (λ (q : Result (Unit {0}) IplRefusal × World T P S). q.0) e) ∙ ok in
-      let n : ◌≡◌ {A = ℕ} 0 1 = cc in absurd (omega arith)
-  started_cases c w true false o x y z e ok =
-      let q : ◌≡◌ {A = Result (Unit {0}) IplRefusal} (Err Partitions) (Ok tt) = sym (ap (λ (q : Result (Unit {0}) IplRefusal × World T P S). q.0) e) ∙ ok in
-      let n : ◌≡◌ {A = ℕ} 0 1 = cc in absurd (omega arith)
-  started_cases c w false b o x y z e ok =
-      let q : ◌≡◌ {A = Result (Unit {0}) IplRefusal} (Err Sizes) (Ok tt) = sym (ap (λ (q : Result (Unit {0}) IplRefusal × World T P S). q.0) e) ∙ ok in
-      let n : ◌≡◌ {A = ℕ} 0 1 = cc in absurd (omega arith)
+      record { fits = f.0; long = f.1; slots = λ k h. no_fault r.store w.store 0 (c.pages - c.supervisor) z k (omega arith) (omega arith); leaves = refl }
+  started_cases c w true true (Some f) x y z ok = cc
+  started_cases c w true false o x y z ok = cc
+  started_cases c w false b o x y z ok = cc
 
-  started : (c : Config) (w : World T P S) → (ipl r c w).0 ≡ Ok tt → Started c w
+  started : (c : Config) (w : World T P S) → (ipl r c w).0 ≡ Ok tt → Started c w (ipl r c w).1
   unfolding ipl
-  started c w ok = started_cases c w (sizes_fit c w.storage) (partitions_fit c) (first_fault r.store w.store 0 (c.pages - c.supervisor)) refl refl refl refl ok
+  started c w ok = started_cases c w (sizes_fit c w.storage) (partitions_fit c) (first_fault r.store w.store 0 (c.pages - c.supervisor)) refl refl refl ok
 
   pub law_of : LawOf r
   law_of c w good ok calls =

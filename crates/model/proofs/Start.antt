@@ -1,26 +1,25 @@
 -- IPL: the tables that it writes, and that the machine it starts is consistent and beside the blank flat machine.
 use Rattle.std.proofs.Common.{◌≡◌, ℕ, zero, suc, ◌+◌, ◌-◌, ◌*◌, ◌/◌, ◌^◌, ◌<◌, ◌≤◌, Bool, true, false, cond, ◌&&◌, eqb, ltb, leb, ◌⊎◌, List, [], ◌∷◌, length, get_or, set, replicate, Some, None, Option, sym, refl, ap, ◌∙◌, subst, inl, inr, arith}
+use Rattle.std.specs.Option.{option_map, option_or}
 use Rattle.std.proofs.lemmas.List.{get_or_past, get_or-replicate, get_or-set_same, get_or-set_other, length-replicate, length-set}
-use Rattle.std.proofs.lemmas.Bool.{and_from, and_parts, cases_eq, cases_lt, eq-eqb, eqb-true, leb-true, le-ltb, lt-ltb, ltb-true, ne_eqb}
+use Rattle.std.proofs.lemmas.Bool.{and_from, and_left, and_parts, cases_eq, cases_lt, cond-false, cond-true, cond_both, eq-eqb, eqb-true, leb-true, lt-ltb, ltb-true, ne_eqb}
 use Rattle.frames.specs.Policy as policies
 use Rattle.model.specs.declared.shape.FrameRecord.{FrameRecord}
 use Rattle.model.specs.declared.shape.Partition.{Partition}
-use Rattle.model.specs.Ipl.{fault_of, first_entry, first_fault, in_order, or_else, own_pages, partition_entry, partitions_fit, returned, sizes_fit, slot_fault, with_entries, with_segments, with_tables}
+use Rattle.model.specs.Ipl.{first_entry, first_fault, in_order, own_pages, partition_entry, partitions_fit, returned, sizes_fit, slot_fault, with_entries, with_segments, with_tables}
 use Rattle.model.specs.Law.{Fits, Holding, Table}
 use Rattle.model.specs.Layout.{entry_at, fixes_in, key_of, no_page, page_in, segment_at, segment_entries, segment_word, segments, vacant}
 use Rattle.model.specs.World.{Config}
-use Rattle.model.proofs.Memory.{Absent}
-use Rattle.model.proofs.Own.{real_page}
 use Rattle.model.proofs.Place.{segment_low}
 use Rattle.pages.specs.declared.fault.Fault.{Fault}
 use Rattle.pages.specs.declared.fault.StoreRefusal.TheVariants.{BadSlot, NoSuchSlot}
 use Rattle.pages.specs.Store as stores
 use Rattle.storage.specs.Bytes.{half, put_half, put_word, word}
-use Rattle.storage.proofs.Over.{laws}
+use Rattle.storage.specs.Over.{laws}
 
 -- Partitions in order: a page of one is not below the start, below the end, and its key is at most 15.
 in_order_lem : (from v : ℕ) (all : List Partition) (p key : ℕ) → in_order from v all ≡ true → key_of all p ≡ Some key → (from ≤ p) × (p < v) × (key ≤ 15)
-in_order_lem from v [] p key e h = let z : ◌≡◌ {A = ℕ} 0 1 = cc in absurd (omega arith)
+in_order_lem from v [] p key e h = cc
 in_order_lem from v (a ∷ rest) p key e h =
     let x = and_parts (leb 1 a.count) _ e in
     let y = and_parts (leb 1 a.key) _ x.1 in
@@ -109,7 +108,7 @@ module _ (c : Config) where
     pub stands : (i : ℕ) → p ≤ i → i < p + n → half t (entry_at i) ≡ first_entry c i
     pub kept : (j : ℕ) → (j < entry_at p) ⊎ (entry_at (p + n) ≤ j) → get_or t j 0 ≡ get_or s j 0
 
-  entered : (p n : ℕ) (s : List ℕ) → entry_at (p + n) ≤ length s → ((i : ℕ) → first_entry c i < 2 ^ 16 ⊎ (p + n ≤ i)) → Entered p n s (with_entries c p n s)
+  entered : (p n : ℕ) (s : List ℕ) → entry_at (p + n) ≤ length s → ((i : ℕ) → first_entry c i < 2 ^ 16) → Entered p n s (with_entries c p n s)
   unfolding with_entries
   entered p zero s h small = record { long = refl; stands = λ i a b. absurd (omega arith); kept = λ j o. refl }
   entered p (suc n) s h small =
@@ -117,15 +116,14 @@ module _ (c : Config) where
       let put = laws.beside.half_within s (entry_at p) v in
       let pl = put.long in
       let s1 = put_half s (entry_at p) v in
-      let rest = entered (p + 1) n s1 (omega arith) (λ i. elim (small i) [ inl x ↦ inl x | inr x ↦ inr (omega arith) ]) in
-      let fits : v < 2 ^ 16 = elim (small p) [ inl x ↦ x | inr x ↦ absurd (omega arith) ] in
+      let rest = entered (p + 1) n s1 (omega arith) small in
       record {
         long = rest.long ∙ pl;
         stands = λ i a b. elim (cases_eq i p) [
           | inl e ↦
               ap (λ x. half (with_entries c (p + 1) n s1) (entry_at x)) e
               ∙ laws.alike.half_alike (with_entries c (p + 1) n s1) s1 (entry_at p) (λ j x y. rest.kept j (inl (omega arith)))
-              ∙ laws.same.half_same s (entry_at p) v (omega arith) fits ∙ ap (first_entry c) (sym e)
+              ∙ laws.same.half_same s (entry_at p) v (omega arith) (small p) ∙ ap (first_entry c) (sym e)
           | inr e ↦ rest.stands i (omega arith) (omega arith)
         ];
         kept = λ j o. elim o [
@@ -136,18 +134,15 @@ module _ (c : Config) where
 
 -- Both tables.
 module _ (c : Config) (fit : Fits c) (s : List ℕ) (long : length s ≡ 2048 * c.frames) where
-  key_small : (p key : ℕ) → key_of c.partitions p ≡ Some key → key ≤ 15
-  key_small p key e = (fit.keys p key e).2
-
-  entry_small : (p : ℕ) → first_entry c p < 2 ^ 16 ⊎ (0 + 32 * segments c ≤ p)
-  entry_small p = elim (cases_lt p c.supervisor) [
-    | inl l ↦ inl (subst (λ n. n < 2 ^ 16) (sym (ap (λ b. cond b (8 * p + 1) (partition_entry (key_of c.partitions p))) (lt-ltb _ _ l))) (let a = fit.some in let b = fit.few in omega arith))
-    | inr l ↦ inl (subst (λ n. n < 2 ^ 16) (sym (ap (λ b. cond b (8 * p + 1) (partition_entry (key_of c.partitions p))) (le-ltb _ _ l))) (by_key (key_of c.partitions p) refl))
-  ]
+  entry_small : (p : ℕ) → first_entry c p < 2 ^ 16
+  entry_small p =
+      let a = fit.some in let b = fit.few in
+      cond_both (ltb p c.supervisor) (8 * p + 1) (partition_entry (key_of c.partitions p)) (λ n. n < 2 ^ 16)
+      (λ t. let l = ltb-true _ _ t in omega arith) (λ _. by_key (key_of c.partitions p) refl)
     where
       by_key : (o : Option ℕ) → key_of c.partitions p ≡ o → partition_entry o < 2 ^ 16
       by_key None e = omega arith
-      by_key (Some key) e = let a = key_small p key e in omega arith
+      by_key (Some key) e = let a = (fit.keys p key e).2 in omega arith
 
   abbrev s1 : List ℕ
   s1 = with_segments c 0 (segment_entries c) s
@@ -184,6 +179,13 @@ module _ (c : Config) (fit : Fits c) (s : List ℕ) (long : length s ≡ 2048 * 
         ]
       ]
 
+-- A list of one value, read with this value as the default.
+pub get_or-replicate_same : {A : Type 0} (n i : ℕ) (x : A) → get_or (replicate n x) i x ≡ x
+get_or-replicate_same n i x = elim (cases_lt i n) [
+  | inl l ↦ get_or-replicate n i x x l
+  | inr l ↦ get_or_past (replicate n x) i x (let a = length-replicate n x in omega arith)
+]
+
 -- The frame table.
 own_pages_lem : (f n : ℕ) (rs : List FrameRecord) → f + n ≤ length rs
     → (length (own_pages f n rs) ≡ length rs)
@@ -206,9 +208,6 @@ own_pages_lem f (suc n) rs h =
       ],
     )
 
-pub first_records : (c : Config) → List FrameRecord
-first_records c = own_pages 0 c.supervisor (replicate 256 vacant)
-
 module _ (c : Config) (fit : Fits c) where
   abbrev rows : List FrameRecord
   rows = own_pages 0 c.supervisor (replicate 256 vacant)
@@ -222,10 +221,7 @@ module _ (c : Config) (fit : Fits c) where
   rows_are = own_pages_lem 0 c.supervisor (replicate 256 vacant) (let a = all_rows in let b = fit.some in let d = fit.few in omega arith)
 
   pub row_vacant : (g : ℕ) → c.supervisor ≤ g → get_or rows g vacant ≡ vacant
-  row_vacant g h = rows_are.2 g (inr (omega arith)) ∙ elim (cases_lt g 256) [
-    | inl l ↦ get_or-replicate 256 g vacant vacant l
-    | inr l ↦ get_or_past (replicate 256 vacant) g vacant (let a = all_rows in omega arith)
-  ]
+  row_vacant g h = rows_are.2 g (inr (omega arith)) ∙ get_or-replicate_same 256 g vacant
 
   pub no_page_lem : (g : ℕ) → c.supervisor ≤ g → page_in rows g ≡ no_page
   no_page_lem g h = ap (λ (x : FrameRecord). x.page) (row_vacant g h)
@@ -244,9 +240,6 @@ module _ (c : Config) (fit : Fits c) where
     apart = λ f g fp gp e ne. absurd (ne (no_page_lem f fp.0));
   }
 
-  pub nobody : (p key : ℕ) → key_of c.partitions p ≡ Some key → Absent c rows p
-  nobody p key e g gp is = real_page c fit p key e (sym is ∙ no_page_lem g gp.0)
-
 -- The policy: the pageable frames, each once.
 module _ {P : Type 0} (r : policies.Rules P) (law : policies.Lawful r) where
   returned_are : (f n : ℕ) (m : P) → f + n ≤ 256 → r.good m → ((g : ℕ) → f ≤ g → r.times m g ≡ 0)
@@ -257,8 +250,8 @@ module _ {P : Type 0} (r : policies.Rules P) (law : policies.Lawful r) where
       let m1 = r.give_back m f false false in
       let free : policies.free r m f ≡ true = and_from _ _ (lt-ltb f 256 (omega arith)) (eq-eqb _ _ (none f (omega arith))) in
       let times : (g : ℕ) → r.times m1 g ≡ cond (eqb g f && policies.free r m f) 1 (r.times m g) = λ g. law.back_times m f g false false good in
-      let other : (g : ℕ) → (g ≡ f → ⊥) → r.times m1 g ≡ r.times m g = λ g ne. times g ∙ ap (λ b. cond (b && policies.free r m f) 1 (r.times m g)) (ne_eqb g f ne) in
-      let here : r.times m1 f ≡ 1 = times f ∙ ap (λ b. cond (b && policies.free r m f) 1 (r.times m f)) (eq-eqb f f refl) ∙ ap (λ b. cond b 1 (r.times m f)) free in
+      let other : (g : ℕ) → (g ≡ f → ⊥) → r.times m1 g ≡ r.times m g = λ g ne. times g ∙ cond-false _ 1 (r.times m g) (and_left _ _ (ne_eqb g f ne)) in
+      let here : r.times m1 f ≡ 1 = times f ∙ cond-true _ 1 (r.times m f) (and_from _ _ (eq-eqb f f refl) free) in
       let rest = returned_are (f + 1) n m1 (omega arith) (law.back_good m f false false good) (λ g a. other g (λ e. omega arith) ∙ none g (omega arith)) in (
         rest.0,
         (λ g a b. elim (cases_eq g f) [
@@ -289,14 +282,14 @@ module _ {P : Type 0} (r : policies.Rules P) (law : policies.Lawful r) where
 
 -- The slots.
 module _ {S : Type 0} (r : stores.Rules S) (m : S) where
-  usable_from : (k : ℕ) (a b : Bool) → ltb k (r.count m) ≡ a → r.bad m k ≡ b → fault_of r m k (cond a (cond b (Some BadSlot) None) (Some NoSuchSlot)) ≡ None → stores.Usable r m k
-  usable_from k true true t u e = let z : ◌≡◌ {A = ℕ} 0 1 = cc in absurd (omega arith)
+  usable_from : (k : ℕ) (a b : Bool) → ltb k (r.count m) ≡ a → r.bad m k ≡ b → option_map (λ why. r.fault m why k) (cond a (cond b (Some BadSlot) None) (Some NoSuchSlot)) ≡ None → stores.Usable r m k
+  usable_from k true true t u e = cc
   usable_from k true false t u e = (ltb-true _ _ t, u)
-  usable_from k false b t u e = let z : ◌≡◌ {A = ℕ} 0 1 = cc in absurd (omega arith)
+  usable_from k false b t u e = cc
 
-  or_none : (x y : Option Fault) → or_else x y ≡ None → (x ≡ None) × (y ≡ None)
+  or_none : (x y : Option Fault) → option_or x y ≡ None → (x ≡ None) × (y ≡ None)
   or_none None y e = (refl, e)
-  or_none (Some f) y e = let z : ◌≡◌ {A = ℕ} 0 1 = cc in absurd (omega arith)
+  or_none (Some f) y e = cc
 
   pub no_fault : (k n : ℕ) → first_fault r m k n ≡ None → (j : ℕ) → k ≤ j → j < k + n → stores.Usable r m j
   unfolding first_fault

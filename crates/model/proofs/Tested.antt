@@ -1,6 +1,6 @@
 -- What IPL writes, what a refused IPL leaves, and what the test of the tables means.
 use Rattle.std.proofs.Common.{◌≡◌, ℕ, ◌+◌, ◌-◌, ◌*◌, Bool, true, false, cond, eqb, Some, None, Err, Option, sym, refl, ◌∙◌, inl, inr, arith}
-use Rattle.std.proofs.lemmas.Bool.{and_from, and_parts, eqb-false}
+use Rattle.std.proofs.lemmas.Bool.{and_from, and_parts, cond_both, eqb-false}
 use Rattle.model.specs.declared.calls.IplRefusal.{IplRefusal}
 use Rattle.model.specs.declared.calls.IplRefusal.TheVariants.{Sizes, Partitions}
 use Rattle.model.specs.Ipl.{first_fault, ipl, partitions_fit, sizes_fit, start_by}
@@ -28,7 +28,7 @@ tables_of c s e q =
 module _ {T P S : Type 0} (r : Parts T P S) where
   refused_cases : (c : Config) (w : World T P S) (why : IplRefusal) (a b : Bool) (o : Option _)
       → (cond a (cond b (start_by r c w o) (Err Partitions, w)) (Err Sizes, w)).0 ≡ Err why → (cond a (cond b (start_by r c w o) (Err Partitions, w)) (Err Sizes, w)).1 ≡ w
-  refused_cases c w why true true None e = let z : ◌≡◌ {A = ℕ} 0 1 = cc in absurd (omega arith)
+  refused_cases c w why true true None e = cc
   refused_cases c w why true true (Some f) e = refl
   refused_cases c w why true false o e = refl
   refused_cases c w why false b o e = refl
@@ -79,14 +79,12 @@ module _ {T P S : Type 0} (r : Parts T P S) where
         (λ g a b. frame_right g (a, let s = k.fits.some in omega arith) none))
       where
         frame_right : (g : ℕ) → Pageable w.config g → ((f : ℕ) → Pageable w.config f → page_in w.records f ≡ p → ⊥) → frame_is w.config w.storage w.records g ≡ true
-        frame_right g gp none = by_page (eqb (page_in w.records g) no_page) refl
-          where
-            by_page : (b : Bool) → eqb (page_in w.records g) no_page ≡ b → cond b true (page_is w.config w.storage (page_in w.records g) (8 * g)) ≡ true
-            by_page true e = refl
-            by_page false e =
-                let f = t.others none g gp (eqb-false _ _ e) in
-                let i = f.entry in
-                is_page w.config w.storage (page_in w.records g) (8 * g) f.segment (omega arith)
+        frame_right g gp none =
+            cond_both (eqb (page_in w.records g) no_page) true (page_is w.config w.storage (page_in w.records g) (8 * g)) (λ b. b ≡ true) (λ _. refl)
+            (λ e.
+            let f = t.others none g gp (eqb-false _ _ e) in
+            let i = f.entry in
+            is_page w.config w.storage (page_in w.records g) (8 * g) f.segment (omega arith))
 
   pub test_of : TestOf r
   test_of w p key k part = record {

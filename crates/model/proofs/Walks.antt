@@ -1,6 +1,6 @@
 -- The walk on tables that are what they should be.
-use Rattle.std.proofs.Common.{◌≡◌, ℕ, ◌+◌, ◌*◌, ◌/◌, ◌%◌, ◌<◌, ◌≤◌, cond, List, length, Some, Ok, sym, refl, ap, ◌∙◌, subst, inl, inr, arith}
-use Rattle.std.proofs.lemmas.Bool.{cases_lt, le-ltb, lt-ltb}
+use Rattle.std.proofs.Common.{◌≡◌, ℕ, ◌+◌, ◌*◌, ◌/◌, ◌%◌, ◌<◌, ◌≤◌, List, length, Some, Ok, sym, refl, ap, ◌∙◌, subst, inl, inr, arith}
+use Rattle.std.proofs.lemmas.Bool.{cases_lt, cond-false, cond-true, le-ltb, lt-ltb}
 use Rattle.model.specs.Law.{Fits}
 use Rattle.model.specs.Layout.{controls_of, entry_at, segment_at, segment_entries, segments, segment_word}
 use Rattle.model.specs.World.{Config}
@@ -30,16 +30,6 @@ passes c a h = checked_of (controls_of c) a small h (small_named c)
 pub only_small : (c : Config) (a : ℕ) (z : Sizes) → checked (controls_of c) a ≡ Ok z → z ≡ small
 only_small c a z e = let k = checked_ok (controls_of c) a z e in let q = k.1 in let n = small_named c in let same : Some z ≡ Some small = sym q ∙ n in cc
 
-quarter : (n : ℕ) → n % 2 ≡ 0 → n / 2 % 2 ≡ 0 → n % 4 ≡ 0
-quarter n a b = omega arith
-
--- The two bits beside the frame field are off.
-both_off : (h : ℕ) → half_bits 14 14 h ≡ 0 → half_bits 13 13 h ≡ 0 → h / 2 % 4 ≡ 0
-both_off h a b =
-    let e : h / 4 ≡ h / 2 / 2 = omega arith in
-    let k : h / 2 / 2 % 2 ≡ 0 = ap (λ n. n % 2) (sym e) ∙ b in
-    quarter (h / 2) a k
-
 -- The fields of a segment entry.
 fifteen : (g : ℕ) → g < 256 → word_bits 0 3 (0xF0000800 + 64 * g) ≡ 15
 fifteen g h = omega arith
@@ -60,7 +50,7 @@ module _ (c : Config) (fit : Fits c) (s : List ℕ) (long : length s ≡ 2048 * 
   segment_gives g h e =
       let m = fit.most in
       let at : 64 * word_bits 8 25 (controls_of c).cr1 + 4 * g ≡ segment_at g = omega arith in
-      let is : word s (segment_at g) ≡ 0xF0000800 + 64 * g = e ∙ ap (λ b. cond b (0xF0000800 + 64 * g) 1) (lt-ltb _ _ h) in
+      let is : word s (segment_at g) ≡ 0xF0000800 + 64 * g = e ∙ cond-true _ (0xF0000800 + 64 * g) 1 (lt-ltb _ _ h) in
       record {
         in_table = omega arith;
         stored = let l = segment_fits c fit s long g (omega arith) in omega arith;
@@ -127,7 +117,7 @@ module _ (c : Config) (fit : Fits c) (s : List ℕ) (long : length s ≡ 2048 * 
         let v = sg.valid in
         elim (cases_lt segment (segments c)) [
           | inl l ↦
-              let e1 : entry ≡ 0xF0000800 + 64 * segment = e ∙ ap (λ b. cond b (0xF0000800 + 64 * segment) 1) (lt-ltb _ _ l) in
+              let e1 : entry ≡ 0xF0000800 + 64 * segment = e ∙ cond-true _ (0xF0000800 + 64 * segment) 1 (lt-ltb _ _ l) in
               let g256 : segment < 256 = omega arith in
               let o : 8 * word_bits 8 28 entry ≡ 2048 + 64 * segment = ap (λ n. 8 * word_bits 8 28 n) e1 ∙ origin segment g256 in
               let whole : p ≡ 32 * segment + index = omega (arith, sum, ip, is) in
@@ -139,11 +129,11 @@ module _ (c : Config) (fit : Fits c) (s : List ℕ) (long : length s ≡ 2048 * 
               let v1 = pg.valid.1 in
               record {
                 listed = omega arith;
-                valid = subst (λ x. x / 2 % 4 ≡ 0) hs (both_off h v0 v1);
+                valid = subst (λ x. x / 2 % 4 ≡ 0) hs (omega arith);
                 starts = subst (λ x. start ≡ 2048 * (x / 8 % 8192)) hs (omega arith);
               }
           | inr l ↦
-              let e1 : entry ≡ 1 = e ∙ ap (λ b. cond b (0xF0000800 + 64 * segment) 1) (le-ltb _ _ l) in
+              let e1 : entry ≡ 1 = e ∙ cond-false _ (0xF0000800 + 64 * segment) 1 (le-ltb _ _ l) in
               absurd (omega arith)
         ]
 

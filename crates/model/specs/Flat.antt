@@ -1,7 +1,7 @@
 -- The flat machine: bytes and fix counts of the partition pages, fed the calls and their arguments alone.
 use Rattle.std.specs.Prelude.{ℕ, ◌+◌, ◌-◌, ◌*◌, ◌/◌, Bool, cond, ◌&&◌, ◌||◌, ltb, List, [], ◌∷◌, replicate, Ok, Err, Result, ◌==◌, nat_le, nat_lt, slice_index, slice_set}
-use Rattle.model.specs.declared.calls.Answer.{Answer}
-use Rattle.model.specs.declared.calls.Answer.TheVariants.{Byte, Done, Refused}
+use Rattle.model.specs.declared.calls.Reply.{Reply}
+use Rattle.model.specs.declared.calls.Reply.TheVariants.{Byte, Done}
 use Rattle.model.specs.declared.calls.Call.{Call}
 use Rattle.model.specs.declared.calls.Call.TheVariants.{Load, Store, Fix, Free, Purge, Settle}
 use Rattle.model.specs.declared.calls.Refusal.{Refusal}
@@ -58,23 +58,23 @@ module _ (m : Flat) where
   fixes_set p n = record { config = m.config; bytes = m.bytes; fixes = slice_set m.fixes p n }
 
   -- each call, by its tests
-  abbrev pub flat_loaded : ℕ → Result (Unit {0}) Refusal → Answer × Flat
-  flat_loaded a (Ok _) = (Byte (slice_index m.bytes a), m)
-  flat_loaded a (Err why) = (Refused why, m)
+  abbrev pub flat_loaded : ℕ → Result (Unit {0}) Refusal → Result Reply Refusal × Flat
+  flat_loaded a (Ok _) = (Ok (Byte (slice_index m.bytes a)), m)
+  flat_loaded a (Err why) = (Err why, m)
 
-  abbrev pub flat_done : Flat → Result (Unit {0}) Refusal → Answer × Flat
-  flat_done next (Ok _) = (Done, next)
-  flat_done next (Err why) = (Refused why, m)
+  abbrev pub flat_done : Flat → Result (Unit {0}) Refusal → Result Reply Refusal × Flat
+  flat_done next (Ok _) = (Ok Done, next)
+  flat_done next (Err why) = (Err why, m)
 
-abbrev pub flat : Call → Flat → Answer × Flat
+abbrev pub flat : Call → Flat → Result Reply Refusal × Flat
 flat (Load a key) m = flat_loaded m a (flat_load m a key)
 flat (Store a key byte) m = flat_done m (byte_set m a byte) (flat_store m a key)
 flat (Fix p) m = flat_done m (fixes_set m p (slice_index m.fixes p + 1)) (flat_fix m p)
 flat (Free p) m = flat_done m (fixes_set m p (slice_index m.fixes p - 1)) (flat_free m p)
-flat Purge m = (Done, m)
-flat Settle m = (Done, m)
+flat Purge m = (Ok Done, m)
+flat Settle m = (Ok Done, m)
 
 -- The flat machine's answers to a list of calls.
-abbrev pub flat_answers : List Call → Flat → List Answer
+abbrev pub flat_answers : List Call → Flat → List (Result Reply Refusal)
 flat_answers [] m = []
 flat_answers (c ∷ cs) m = (flat c m).0 ∷ flat_answers cs (flat c m).1

@@ -1,5 +1,6 @@
 -- IPL: its refusals, the tables that it writes, and the machine that it starts.
-use Rattle.std.specs.Prelude.{ℕ, zero, suc, ◌+◌, ◌-◌, ◌*◌, ◌/◌, Bool, true, false, cond, ◌&&◌, List, [], ◌∷◌, length, replicate, Some, None, Ok, Err, Option, Result, ◌==◌, nat_le, nat_lt, slice_set}
+use Rattle.std.specs.Prelude.{ℕ, zero, suc, ◌+◌, ◌-◌, ◌*◌, ◌/◌, Bool, true, false, cond, ◌&&◌, List, [], ◌∷◌, length, replicate, Some, None, Ok, Err, Option, Result, ◌==◌, nat_le, nat_lt, option_map, slice_set}
+use Rattle.std.specs.Option.{option_or}
 use Rattle.frames.specs.Policy as policies
 use Rattle.model.specs.declared.calls.IplRefusal.{IplRefusal}
 use Rattle.model.specs.declared.calls.IplRefusal.TheVariants.{Sizes, Partitions, Slot}
@@ -8,7 +9,6 @@ use Rattle.model.specs.declared.shape.Partition.{Partition}
 use Rattle.model.specs.Layout.{controls_of, entry_at, key_of, segment_at, segment_entries, segment_word, segments, vacant}
 use Rattle.model.specs.World.{Config, Parts, World}
 use Rattle.pages.specs.declared.fault.Fault.{Fault}
-use Rattle.pages.specs.declared.fault.StoreRefusal.{StoreRefusal}
 use Rattle.pages.specs.Store as stores
 use Rattle.storage.specs.Bytes.{put_half, put_word}
 
@@ -35,20 +35,12 @@ abbrev pub partitions_fit : Config → Bool
 partitions_fit c = nat_le 1 (length c.partitions) && (nat_le (length c.partitions) 5 && in_order c.supervisor c.pages c.partitions)
 
 -- 34: the fault of the first of n slots from k on that cannot be used.
-abbrev pub fault_of : {S : Type 0} → stores.Rules S → S → ℕ → Option StoreRefusal → Option Fault
-fault_of r m k None = None
-fault_of r m k (Some why) = Some (r.fault m why k)
-
 abbrev pub slot_fault : {S : Type 0} → stores.Rules S → S → ℕ → Option Fault
-slot_fault r m k = fault_of r m k (stores.refusal_at r m k 2048)
-
-abbrev pub or_else : Option Fault → Option Fault → Option Fault
-or_else (Some fault) other = Some fault
-or_else None other = other
+slot_fault r m k = option_map (λ why. r.fault m why k) (stores.refusal_at r m k 2048)
 
 unfoldable pub first_fault : {S : Type 0} → stores.Rules S → S → ℕ → ℕ → Option Fault
 first_fault r m k zero = None
-first_fault r m k (suc n) = or_else (slot_fault r m k) (first_fault r m (k + 1) n)
+first_fault r m k (suc n) = option_or (slot_fault r m k) (first_fault r m (k + 1) n)
 
 -- The entry that a page has after IPL.
 abbrev pub partition_entry : Option ℕ → ℕ

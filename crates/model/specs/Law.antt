@@ -1,9 +1,9 @@
 -- The law over whole runs, and the law over disturbed runs.
 use Rattle.std.specs.Prelude.{◌≡◌, ℕ, ◌+◌, ◌-◌, ◌*◌, ◌/◌, ◌<◌, ◌≤◌, true, ◌⊎◌, List, [], ◌∷◌, length, get_or, Some, None, Ok, Err, Option, Result, ◌≢◌, slice_index, slice_index_or}
+use Rattle.std.specs.Result.{IsOk, result_err}
 use Rattle.frames.specs.Keys.{access_of}
 use Rattle.frames.specs.Policy as policies
-use Rattle.model.specs.declared.calls.Answer.{Answer}
-use Rattle.model.specs.declared.calls.Answer.TheVariants.{Byte, Done, Refused}
+use Rattle.model.specs.declared.calls.Reply.{Reply}
 use Rattle.model.specs.declared.calls.Call.{Call}
 use Rattle.model.specs.declared.calls.Call.TheVariants.{Load, Store, Fix, Free, Purge, Settle}
 use Rattle.model.specs.declared.calls.Refusal.{Refusal}
@@ -70,11 +70,6 @@ module _ {T P S : Type 0} (r : Parts T P S) where
       ((bit15 w.storage p ≡ 0) × (r.store.slot w.store (p - w.config.supervisor) ≡ page m.bytes (2048 * p)))
       ⊎ ((bit15 w.storage p ≡ 1) × (page m.bytes (2048 * p) ≡ zeros))
 
-  abbrev pub answered : Answer → Type 0
-  answered (Byte b) = Unit {0}
-  answered Done = Unit {0}
-  answered (Refused why) = ⊥
-
   -- what holds after a call that is answered
   abbrev pub After : Call → World T P S → Flat → Type 0
   After (Load a key) w m = Stands w m a
@@ -90,7 +85,7 @@ module _ {T P S : Type 0} (r : Parts T P S) where
   Sound (c ∷ cs) w m =
       Placed w m
       × ((worked r c w).0 ≡ (flat c m).0)
-      × (answered (worked r c w).0 → After c (worked r c w).1 (flat c m).1)
+      × (IsOk (worked r c w).0 → After c (worked r c w).1 (flat c m).1)
       × Sound cs (worked r c w).1 (flat c m).1
 
   -- the law over whole runs: after an answered IPL, every list of calls
@@ -178,23 +173,19 @@ pub record TablesRight (c : Config) (s : List ℕ) (rs : List FrameRecord) (p ke
   pub others : ((f : ℕ) → Pageable c f → page_in rs f ≢ p) → (g : ℕ) → Pageable c g → (page_in rs g ≢ no_page) → FrameRight c s rs g
 
 -- The first refusal of the table that holds, if any.
-abbrev pub refused_by : {A : Type 0} → Result A Refusal → Option Refusal
-refused_by (Ok x) = None
-refused_by (Err why) = Some why
-
 abbrev pub first_refusal : {T P S : Type 0} → Call → World T P S → Option Refusal
-first_refusal (Load a key) w = refused_by (decode_load w a key)
-first_refusal (Store a key byte) w = refused_by (decode_store w a key)
-first_refusal (Fix p) w = refused_by (decode_fix w p)
-first_refusal (Free p) w = refused_by (decode_free w p)
-first_refusal Purge w = refused_by (decode_purge w)
-first_refusal Settle w = refused_by (decode_settle w)
+first_refusal (Load a key) w = result_err (decode_load w a key)
+first_refusal (Store a key byte) w = result_err (decode_store w a key)
+first_refusal (Fix p) w = result_err (decode_fix w p)
+first_refusal (Free p) w = result_err (decode_free w p)
+first_refusal Purge w = result_err (decode_purge w)
+first_refusal Settle w = result_err (decode_settle w)
 
 module _ {T P S : Type 0} (r : Parts T P S) where
   -- an outcome is an answer, or the first refusal that holds with everything left as found
-  abbrev pub ToldBy : Answer × World T P S → World T P S → Option Refusal → Type 0
-  ToldBy x w (Some why) = x ≡ (Refused why, w)
-  ToldBy x w None = answered r x.0
+  abbrev pub ToldBy : Result Reply Refusal × World T P S → World T P S → Option Refusal → Type 0
+  ToldBy x w (Some why) = x ≡ (Err why, w)
+  ToldBy x w None = IsOk x.0
 
   abbrev pub Told : Call → World T P S → Option Refusal → Type 0
   Told c w o = ToldBy (worked r c w) w o

@@ -1,8 +1,9 @@
 -- The refusals of the six calls, each in the table's order, before anything is changed.
-use Rattle.std.specs.Prelude.{ℕ, ◌-◌, ◌*◌, ◌/◌, Bool, true, false, cond, ◌&&◌, ◌||◌, List, length, Some, None, Ok, Err, Option, Result, ◌==◌, nat_le, nat_lt}
+use Rattle.std.specs.Prelude.{ℕ, ◌-◌, ◌*◌, ◌/◌, Bool, true, false, cond, ◌&&◌, ◌||◌, List, length, Some, None, Ok, Err, Option, Result, ◌==◌, nat_le, nat_lt, ok_or}
 use Rattle.model.specs.declared.calls.Refusal.{Refusal}
 use Rattle.model.specs.declared.calls.Refusal.TheVariants.{Sizes, Key, Addressing, Protection, FixLimit, NotFixed, AllFixed, Tables}
 use Rattle.model.specs.declared.shape.FrameRecord.{FrameRecord}
+use Rattle.model.specs.declared.shape.Request.{Request}
 use Rattle.model.specs.Layout.{entries_are, entry_for, fixed_in, fixes_in, frame_of, frames_are, key_of, page_is, segment_entries, segments, segments_are}
 use Rattle.model.specs.World.{Config, World}
 
@@ -28,24 +29,14 @@ unless true why = Ok tt
 unless false why = Err why
 
 -- The access key of a partition page; 5 for a page past the last or of no partition, 4 for a page of the supervisor.
-abbrev pub keyed : Option ℕ → Result ℕ Refusal
-keyed (Some key) = Ok key
-keyed None = Err Addressing
-
 abbrev pub page_key : Config → ℕ → Result ℕ Refusal
 page_key c p =
-    cond (nat_lt p c.pages) (cond (nat_lt p c.supervisor) (Err Protection) (keyed (key_of c.partitions p))) (Err Addressing)
+    cond (nat_lt p c.pages) (cond (nat_lt p c.supervisor) (Err Protection) (ok_or (key_of c.partitions p) Addressing)) (Err Addressing)
 
 -- The fix count of the page that a frame has; 0 of a page without one.
 abbrev pub fixes_of : List FrameRecord → Option ℕ → ℕ
 fixes_of rs (Some f) = fixes_in rs f
 fixes_of rs None = 0
-
--- A request that has passed its tests: the page, its access key, and its frame or none.
-pub record Request : Type 0 where
-  pub page : ℕ
-  pub key : ℕ
-  pub frame : Option ℕ
 
 module _ {T P S : Type 0} (w : World T P S) where
   abbrev pub right_length : Bool

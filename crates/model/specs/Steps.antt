@@ -1,18 +1,19 @@
 -- The page fault in its four steps, and what the six calls leave. Each rule is total and names all that it leaves.
-use Rattle.std.specs.Prelude.{ℕ, zero, suc, ◌+◌, ◌-◌, ◌*◌, ◌/◌, ◌%◌, Bool, cond, not, ◌&&◌, List, length, Some, None, Ok, Err, Option, Result, ◌==◌, nat_le, nat_lt, slice_index, slice_set}
+use Rattle.std.specs.Prelude.{ℕ, zero, suc, ◌+◌, ◌-◌, ◌*◌, ◌/◌, ◌%◌, Bool, cond, not, ◌&&◌, List, length, Some, None, Ok, Err, Option, Result, ◌==◌, nat_le, nat_lt, slice_index, slice_set, unwrap_or}
+use Rattle.std.specs.Result.{result_map_both, result_unwrap_or}
 use Rattle.frames.specs.Keys.{access_of, changed, reference_on, referred}
 use Rattle.frames.specs.Policy.{Took}
-use Rattle.model.specs.declared.calls.Answer.{Answer}
-use Rattle.model.specs.declared.calls.Answer.TheVariants.{Byte, Done, Refused}
+use Rattle.model.specs.declared.calls.Reply.{Reply}
+use Rattle.model.specs.declared.calls.Reply.TheVariants.{Byte, Done}
 use Rattle.model.specs.declared.calls.Call.{Call}
 use Rattle.model.specs.declared.calls.Call.TheVariants.{Load, Store, Fix, Free, Purge, Settle}
 use Rattle.model.specs.declared.calls.Refusal.{Refusal}
+use Rattle.model.specs.declared.shape.Request.{Request}
 use Rattle.model.specs.Layout.{bit15, entry_at, fixes_in, no_page, page_in}
-use Rattle.model.specs.Refusals.{Request, decode_fix, decode_free, decode_load, decode_purge, decode_settle, decode_store}
+use Rattle.model.specs.Refusals.{decode_fix, decode_free, decode_load, decode_purge, decode_settle, decode_store}
 use Rattle.model.specs.World.{Parts, World}
 use Rattle.pages.specs.Store as stores
 use Rattle.storage.specs.Bytes.{frame, half, put_frame, put_half, zeros}
-use Rattle.translation.specs.Translator.{Answer as Translation}
 
 -- The key with its change bit on, and off; every other bit as it was.
 abbrev pub change_on : ℕ → ℕ
@@ -33,19 +34,12 @@ put_out r m k page = stores.written r m k page (stores.refusal_at r m k (length 
 abbrev pub read_in : {S : Type 0} → stores.Rules S → S → ℕ → List ℕ → List ℕ
 read_in r m k buffer = stores.read_into r m k buffer (stores.refusal_at r m k (length buffer))
 
--- The real address that a translator answers; this one stands in for a refusal.
-abbrev pub real_or : ℕ → Translation → ℕ
-real_or other (Ok real) = real
-real_or other (Err why) = other
+-- The answers of all six calls, of one type.
+abbrev pub byte_answer : Result ℕ Refusal → Result Reply Refusal
+byte_answer r = result_map_both Byte (λ why. why) r
 
--- Answers of one type.
-abbrev pub byte_answer : Result ℕ Refusal → Answer
-byte_answer (Ok b) = Byte b
-byte_answer (Err why) = Refused why
-
-abbrev pub done_answer : Result (Unit {0}) Refusal → Answer
-done_answer (Ok _) = Done
-done_answer (Err why) = Refused why
+abbrev pub done_answer : Result (Unit {0}) Refusal → Result Reply Refusal
+done_answer r = result_map_both (λ _. Done) (λ why. why) r
 
 module _ {T P S : Type 0} (r : Parts T P S) where
   -- Taken: the policy picks a frame, and may turn reference bits off.
@@ -114,16 +108,15 @@ module _ {T P S : Type 0} (r : Parts T P S) where
 
   -- A page brought in: the frame that it has then, and the world.
   abbrev pub brought_frame : World T P S → Option ℕ → ℕ
-  brought_frame w (Some f) = f
-  brought_frame w None = taken_frame w
+  brought_frame w o = unwrap_or o (taken_frame w)
 
   abbrev pub brought : ℕ → ℕ → World T P S → Option ℕ → World T P S
   brought p key w (Some f) = w
   brought p key w None = faulted (taken_frame w) p key w
 
-  -- The translator is asked for an address whose page is in frame f.
+  -- The translator is asked for an address whose page is in frame f; that byte of f stands in for a refusal.
   abbrev pub asked : ℕ → ℕ → World T P S → ℕ
-  asked a f w = real_or (2048 * f + a % 2048) (r.translator.translate w.translator w.storage a).answer
+  asked a f w = result_unwrap_or (r.translator.translate w.translator w.storage a).answer (2048 * f + a % 2048)
 
   -- Referred to: the reference bit goes on, and the policy is told.
   abbrev pub loaded_in : ℕ → ℕ → World T P S → World T P S
@@ -251,7 +244,7 @@ module _ {T P S : Type 0} (r : Parts T P S) where
   unfoldable pub settle : World T P S → Result (Unit {0}) Refusal × World T P S
   settle w = sweeping w (decode_settle w)
 
-  abbrev pub worked : Call → World T P S → Answer × World T P S
+  abbrev pub worked : Call → World T P S → Result Reply Refusal × World T P S
   worked (Load a key) w = (byte_answer (load a key w).0, (load a key w).1)
   worked (Store a key byte) w = (done_answer (store a key byte w).0, (store a key byte w).1)
   worked (Fix p) w = (done_answer (fix p w).0, (fix p w).1)

@@ -5,25 +5,25 @@ ghost use Rattle.model.specs.Refusals.{number_of};
 
 use pages::fault::Fault;
 
-/// Why a call is refused.
-#[derive(Clone, Copy)]
+/// Why a call is refused, with the number under which an operator knows the refusal.
+#[derive(Clone, Copy, PartialEq, Eq, Debug)]
 pub enum Refusal {
     /// main storage has not the length that IPL was given
-    Sizes,
+    Sizes = 32,
     /// the key is over 15
-    Key,
+    Key = 36,
     /// the page is none of the machine's
-    Addressing,
+    Addressing = 5,
     /// the page is the supervisor's, or the key does not fit its partition
-    Protection,
+    Protection = 4,
     /// the page is fixed 255 times
-    FixLimit,
+    FixLimit = 37,
     /// the page is not fixed
-    NotFixed,
+    NotFixed = 38,
     /// every pageable frame has a fixed page, and this page is none of them
-    AllFixed,
+    AllFixed = 35,
     /// the tables in main storage are not what IPL, partitions and frame table give
-    Tables,
+    Tables = 54,
 }
 
 impl Refusal {
@@ -31,21 +31,12 @@ impl Refusal {
     pub fn number(self) -> u8
         ensures { result ≡ number_of self }
     {
-        match self {
-            Refusal::Sizes => 32,
-            Refusal::Key => 36,
-            Refusal::Addressing => 5,
-            Refusal::Protection => 4,
-            Refusal::FixLimit => 37,
-            Refusal::NotFixed => 38,
-            Refusal::AllFixed => 35,
-            Refusal::Tables => 54,
-        }
+        self as u8
     }
 }
 
 /// Why IPL is refused.
-#[derive(Clone, Copy)]
+#[derive(Clone, Copy, PartialEq, Eq, Debug)]
 pub enum IplRefusal {
     /// the numbers of frames, supervisor frames and pages, or the length of main storage
     Sizes,
@@ -60,6 +51,7 @@ impl IplRefusal {
     pub fn number(self) -> u8
         ensures { result ≡ ipl_number self }
     {
+        // A `match`: a case that carries a value has no number of its own to cast.
         match self {
             IplRefusal::Sizes => 32,
             IplRefusal::Partitions => 33,
@@ -69,7 +61,7 @@ impl IplRefusal {
 }
 
 /// A call.
-#[derive(Clone, Copy)]
+#[derive(Clone, Copy, PartialEq, Eq, Debug)]
 pub enum Call {
     Load { address: u32, key: u8 },
     Store { address: u32, key: u8, byte: u8 },
@@ -79,10 +71,12 @@ pub enum Call {
     Settle,
 }
 
-/// What a call answers.
-#[derive(Clone, Copy)]
-pub enum Answer {
+/// What an answered call gives: the byte that a Load reads, or done.
+#[derive(Clone, Copy, PartialEq, Eq, Debug)]
+pub enum Reply {
     Byte(u8),
     Done,
-    Refused(Refusal),
 }
+
+/// What a call answers.
+pub type Answer = Result<Reply, Refusal>;

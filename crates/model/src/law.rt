@@ -10,16 +10,10 @@ use translation::Translator;
 /// the flat machine answers it, and every list of calls each handed any main storage leaves the machine consistent. IPL
 /// writes its tables and alters no other byte; a refused one leaves everything as found. In a consistent machine the test
 /// of the tables says just whether they are what IPL, partitions and frame table give.
-pub fn law_stands<T: Translator, P: Policy, S: PageStore>(
-    _translator: &T,
-    _policy: &P,
-    _store: &S,
-) -> u8
+pub fn law_stands<T: Translator, P: Policy, S: PageStore>(_translator: &T, _policy: &P, _store: &S)
     ensures law { LawOf (parts_of T.Translator.rules P.Policy.rules S.PageStore.rules) }
     ensures tables { TablesOf }
     ensures refused { RefusedOf (parts_of T.Translator.rules P.Policy.rules S.PageStore.rules) }
     ensures test { TestOf (parts_of T.Translator.rules P.Policy.rules S.PageStore.rules) }
     ensures steady { SteadyOf (parts_of T.Translator.rules P.Policy.rules S.PageStore.rules) }
-{
-    0
-}
+{}
