@@ -1,40 +1,50 @@
 //! The tests of IPL on what it is given.
-ghost use Rattle.std.specs.Prelude.{◌≡◌, ◌*◌, ◌≤◌, ◌&&◌, [], length, ◌==◌};
-ghost use Rattle.layout.specs.Config.{checked_as, config_in, config_of, frames_fit, pages_fit};
+ghost use Rattle.std.specs.Prelude.{◌≡◌, []};
+ghost use Rattle.model.specs.Ipl.{sizes_fit};
+ghost use Rattle.layout.specs.Config.{checked_as, config_with, frames_fit, pages_fit};
 
 use crate::Layout;
 use model::calls::IplRefusal;
 use model::shape::Partition;
 use partitions::Partitions;
 
-// The numbers of frames fit each other.
-fn frames_fit(frames: u32, supervisor: u32) -> bool
-    ensures { result ≡ frames_fit frames supervisor }
-{
-    frames >= 3 && frames <= 256 && supervisor >= 2 && supervisor < frames
+/// The number of frames, of supervisor frames and of virtual pages that IPL is given.
+#[derive(Clone, Copy, PartialEq, Eq, Debug)]
+pub struct Sizes {
+    pub frames: u32,
+    pub supervisor: u32,
+    pub pages: u32,
 }
 
-// The page tables end before the first pageable frame, and there are pages behind the supervisor's.
-fn pages_fit(supervisor: u32, pages: u32) -> bool
-    ensures { result ≡ pages_fit supervisor pages }
-{
-    let segments = (pages as u64 + 31) / 32;
-    1 + (segments + 31) / 32 <= supervisor as u64 && supervisor < pages && pages <= 8192
-}
+impl Sizes {
+    // The numbers of frames fit each other.
+    fn frames_fit(self) -> bool
+        ensures { result ≡ frames_fit self.frames self.supervisor }
+    {
+        (3..=256).contains(&self.frames) && (2..self.frames).contains(&self.supervisor)
+    }
 
-// The numbers fit each other and the length of main storage.
-fn sizes_fit(frames: u32, supervisor: u32, pages: u32, storage: &[u8]) -> bool
-    ensures { result ≡ (frames_fit frames supervisor && (pages_fit supervisor pages && length storage.now == 2048 * frames)) }
-{
-    frames_fit(frames, supervisor)
-        && pages_fit(supervisor, pages)
-        && storage.len() == 2048 * frames as usize
+    // The page tables end before the first pageable frame, and there are pages behind the supervisor's.
+    fn pages_fit(self) -> bool
+        ensures { result ≡ pages_fit self.supervisor self.pages }
+    {
+        1 + self.pages.div_ceil(32).div_ceil(32) <= self.supervisor
+            && self.supervisor < self.pages
+            && self.pages <= 8192
+    }
+
+    // The numbers fit each other and the length of main storage.
+    fn fit(self, storage: &[u8]) -> bool
+        ensures { result ≡ sizes_fit (config_with self []) storage.now }
+    {
+        self.frames_fit() && self.pages_fit() && storage.len() == 2048 * self.frames as usize
+    }
 }
 
 impl Layout {
     /// Before IPL: no frame, no page, no partition.
     pub fn none() -> Layout
-        ensures { config_of result ≡ record { frames = 0; supervisor = 0; pages = 0; partitions = [] } }
+        ensures { result ≡ record { frames = 0; supervisor = 0; pages = 0; partitions = [] } }
     {
         Layout {
             frames: 0,
@@ -45,51 +55,20 @@ impl Layout {
     }
 
     /// What IPL is given, where it passes IPL's tests of the numbers and of the partitions; the first refusal otherwise.
-    pub fn checked(
-        frames: u32,
-        supervisor: u32,
-        pages: u32,
-        list: &[Partition],
-        storage: &[u8],
-    ) -> Result<Layout, IplRefusal>
-        ensures { config_in result ≡ checked_as (record { frames = frames; supervisor = supervisor; pages = pages; partitions = list.now }) storage.now }
+    pub fn checked(sizes: Sizes, list: &[Partition], storage: &[u8]) -> Result<Layout, IplRefusal>
+        ensures { result ≡ checked_as (config_with sizes list.now) storage.now }
     {
-        if !sizes_fit(frames, supervisor, pages, storage) {
+        if !sizes.fit(storage) {
             return Err(IplRefusal::Sizes);
         }
-        match Partitions::checked(list, supervisor, pages) {
-            None => Err(IplRefusal::Partitions),
-            Some(partitions) => Ok(Layout {
-                frames: frames as u16,
-                supervisor: supervisor as u16,
-                pages: pages as u16,
-                partitions,
-            }),
-        }
-    }
-
-    /// How many frames there are.
-    pub fn frames(&self) -> u16
-        ensures value { result ≡ (config_of self.now).frames }
-        ensures few { result ≤ 256 }
-    {
-        self.frames
-    }
-
-    /// How many of them are the supervisor's.
-    pub fn supervisor(&self) -> u16
-        ensures value { result ≡ (config_of self.now).supervisor }
-        ensures within { result ≤ (config_of self.now).frames }
-        ensures below { result ≤ 255 }
-    {
-        self.supervisor
-    }
-
-    /// How many virtual pages there are.
-    pub fn pages(&self) -> u16
-        ensures value { result ≡ (config_of self.now).pages }
-        ensures most { result ≤ 8192 }
-    {
-        self.pages
+        let partitions = Partitions::checked(list, sizes.supervisor, sizes.pages).ok_or(
+            IplRefusal::Partitions,
+        )?;
+        Ok(Layout {
+            frames: sizes.frames as u16,
+            supervisor: sizes.supervisor as u16,
+            pages: sizes.pages as u16,
+            partitions,
+        })
     }
 }

@@ -9,4 +9,5 @@ pub mod entries;
 pub mod laid;
 mod layout;
 
+pub use check::Sizes;
 pub use layout::Layout;

@@ -1,41 +1,33 @@
--- The loops over a list of partitions, turn by turn.
-use Rattle.std.proofs.Common.{◌≡◌, ℕ, ◌+◌, ◌<◌, Bool, true, false, cond, ◌&&◌, ltb, leb, List, ◌++◌, length, get_or, take, drop, Some, None, sym, refl, ap, ◌∙◌}
-use Rattle.std.proofs.lemmas.List.{at_drop_more, take_at}
+-- The search of a list of partitions, and a list copied into the array.
+use Rattle.std.proofs.Common.{◌≡◌, ℕ, ◌+◌, ◌-◌, ◌≤◌, true, false, cond, ◌&&◌, ltb, leb, List, [], ◌∷◌, ◌++◌, length, take, drop, replicate, length-append, length-drop, Some, sym, refl, ap, ◌∙◌, arith}
+use Rattle.std.specs.List.{find}
+use Rattle.std.specs.Option.{option_map}
+use Rattle.std.proofs.lemmas.List.{drop-replicate, take_at}
 use Rattle.model.specs.declared.shape.Partition.{Partition}
-use Rattle.model.specs.Ipl.{in_order}
 use Rattle.model.specs.Layout.{key_of}
+use Rattle.partitions.specs.Partitions.{IsPadded, spare}
 
-module _ (list : List Partition) (page i : ℕ) (d : Partition) (h : i < length list) where
-  pub key_here : (leb (get_or list i d).first page && ltb page ((get_or list i d).first + (get_or list i d).count)) ≡ true → key_of (drop i list) page ≡ Some (get_or list i d).key
-  key_here e = at_drop_more (λ l. key_of l page) list i d h ∙ ap (λ b. cond b (Some (get_or list i d).key) (key_of (drop (i + 1) list) page)) e
+-- The key of a page is that of the first partition that it is in.
+pub key_of-find : (list : List Partition) (page : ℕ) → key_of list page ≡ option_map (λ (p : Partition). p.key) (find (λ (p : Partition). leb p.first page && ltb page (p.first + p.count)) list)
+key_of-find [] page = refl
+key_of-find (p ∷ rest) page =
+    elim (leb p.first page && ltb page (p.first + p.count)) as (λ b. cond b (Some p.key) (key_of rest page) ≡ option_map (λ (q : Partition). q.key) (cond b (Some p) (find (λ (q : Partition). leb q.first page && ltb page (q.first + q.count)) rest)))
+    [ true ↦ refl | false ↦ key_of-find rest page ]
 
-  pub key_later : (leb (get_or list i d).first page && ltb page ((get_or list i d).first + (get_or list i d).count)) ≡ false → key_of (drop i list) page ≡ key_of (drop (i + 1) list) page
-  key_later e = at_drop_more (λ l. key_of l page) list i d h ∙ ap (λ b. cond b (Some (get_or list i d).key) (key_of (drop (i + 1) list) page)) e
+-- A list copied to the front of five places that are not in use.
+module _ (xs qs : List Partition) (e : qs ≡ xs) (few : length xs ≤ 5) where
+  abbrev copied : List Partition
+  copied = qs ++ drop (length xs) (replicate 5 spare)
 
--- Five tests and the rest, grouped either way.
-regroup : (a b c d e f : Bool) → (a && (b && (c && (d && (e && f))))) ≡ ((a && (b && (c && (d && e)))) && f)
-regroup true true true true e f = refl
-regroup true true true false e f = refl
-regroup true true false d e f = refl
-regroup true false c d e f = refl
-regroup false b c d e f = refl
+  front : take (length xs) copied ≡ qs
+  front = take_at qs (drop (length xs) (replicate 5 spare)) (length xs) (ap length e)
 
-abbrev pub fitting : Partition → ℕ → ℕ → Bool
-fitting p from pages = leb 1 p.count && (leb 1 p.key && (leb p.key 15 && (leb from p.first && leb (p.first + p.count) pages)))
+  behind : (n : ℕ) → n ≡ length xs → drop (length xs) (replicate 5 spare) ≡ replicate (5 - n) spare
+  behind n d = drop-replicate (length xs) 5 spare ∙ ap (λ k. replicate (5 - k) spare) (sym d)
 
-module _ (list : List Partition) (from pages i : ℕ) (d : Partition) (h : i < length list) where
-  abbrev here : Partition
-  here = get_or list i d
-
-  pub order_step : in_order from pages (drop i list) ≡ (fitting here from pages && in_order (here.first + here.count) pages (drop (i + 1) list))
-  order_step = at_drop_more (λ l. in_order from pages l) list i d h ∙ regroup (leb 1 here.count) (leb 1 here.key) (leb here.key 15) (leb from here.first) (leb (here.first + here.count) pages) (in_order (here.first + here.count) pages (drop (i + 1) list))
-
-  pub order_stops : fitting here from pages ≡ false → in_order from pages (drop i list) ≡ false
-  order_stops e = order_step ∙ ap (λ b. b && in_order (here.first + here.count) pages (drop (i + 1) list)) e
-
-  pub order_goes : fitting here from pages ≡ true → in_order from pages (drop i list) ≡ in_order (here.first + here.count) pages (drop (i + 1) list)
-  order_goes e = order_step ∙ ap (λ b. b && in_order (here.first + here.count) pages (drop (i + 1) list)) e
-
--- A list copied to the front of the array.
-pub copied : (xs qs rest : List Partition) (b : Bool) → qs ≡ xs → b ≡ true → Some (take (length xs) (qs ++ rest)) ≡ cond b (Some xs) None
-copied xs qs rest b e t = ap Some (take_at qs rest (length xs) (ap length e) ∙ e) ∙ sym (ap (λ c. cond c (Some xs) None) t)
+  pub copied_filled : IsPadded copied (length xs)
+  copied_filled = record {
+    few = few;
+    long = rw (length-append, length-drop) (let l = ap length e in omega arith);
+    rest = rw front (ap (λ r. qs ++ r) (behind (length qs) (ap length e)));
+  }

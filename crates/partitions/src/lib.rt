@@ -2,6 +2,5 @@
 #![tactic(auto)]
 
 mod list;
-mod made;
 
 pub use list::Partitions;

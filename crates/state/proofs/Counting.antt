@@ -1,11 +1,13 @@
 -- The number of fixed pages, as one fix count changes.
-use Rattle.std.proofs.Common.{◌≡◌, ℕ, zero, suc, ◌+◌, ◌-◌, ◌<◌, ◌≤◌, Bool, true, false, cond, ◌&&◌, ltb, leb, ◌⊎◌, List, length, sym, refl, ap, ◌∙◌, inl, inr, arith}
+use Rattle.std.proofs.Common.{◌≡◌, ℕ, zero, suc, ◌+◌, ◌-◌, ◌<◌, ◌≤◌, Bool, true, false, cond, ◌&&◌, ltb, leb, ◌⊎◌, List, length, sym, ap, ◌∙◌, inl, inr, arith}
 use Rattle.std.proofs.lemmas.Bool.{and_cases, and_parts, cases_eq, leb-false, leb-true, ltb-false, ltb-true}
 use Rattle.model.specs.declared.shape.FrameRecord.{FrameRecord}
 use Rattle.model.specs.Layout.{counted, fixed_in, fixes_in}
-use Rattle.model.proofs.Find.{counted_same, counted_up}
+use Rattle.model.proofs.Find.{counted_same}
 use Rattle.model.proofs.Own.{fixes_here, fixes_there}
+use Rattle.model.specs.World.{Config}
 use Rattle.table.specs.Table.{with_fixes}
+use Rattle.state.specs.Bare.{IsCounted}
 
 pub most : (P : ℕ → Bool) (f n : ℕ) → counted P f n ≤ n
 unfolding counted
@@ -14,49 +16,50 @@ most P f (suc n) =
     let rest = most P (f + 1) n in
     elim (P f) as (λ b. cond b 1 0 + counted P (f + 1) n ≤ suc n) [ true ↦ omega arith | false ↦ omega arith ]
 
--- Two tests that are the same at every number.
-all_same : (P Q : ℕ → Bool) (f n h : ℕ) → ((g : ℕ) → (g ≡ h → ⊥) → Q g ≡ P g) → Q h ≡ P h → counted Q f n ≡ counted P f n
-all_same P Q f n h same here =
-    counted_same P Q f n (λ g a b. elim (cases_eq g h) [ inl e ↦ ap Q e ∙ here ∙ ap P (sym e) | inr e ↦ same g e ])
-
 -- Two tests that differ at most at one number.
-point : (P Q : ℕ → Bool) (f n h : ℕ) → f ≤ h → h < f + n → ((g : ℕ) → (g ≡ h → ⊥) → Q g ≡ P g) → (p q : Bool) → P h ≡ p → Q h ≡ q
-    → counted Q f n + cond p 1 0 ≡ counted P f n + cond q 1 0
-point P Q f n h a b same true true e d = ap (λ k. k + 1) (all_same P Q f n h same (d ∙ sym e))
-point P Q f n h a b same true false e d = let up = counted_up Q P f n h a b d e (λ g ne. sym (same g ne)) in omega arith
-point P Q f n h a b same false true e d = let up = counted_up P Q f n h a b e d same in omega arith
-point P Q f n h a b same false false e d = ap (λ k. k + 0) (all_same P Q f n h same (d ∙ sym e))
+differ : (P Q : ℕ → Bool) (f n h : ℕ) → f ≤ h → h < f + n → ((g : ℕ) → (g ≡ h → ⊥) → Q g ≡ P g) → counted Q f n + cond (P h) 1 0 ≡ counted P f n + cond (Q h) 1 0
+unfolding counted
+differ P Q f zero h a b same = absurd (omega arith)
+differ P Q f (suc n) h a b same = elim (cases_eq f h) [
+  | inl e ↦
+      let rest = counted_same P Q (f + 1) n (λ g x y. same g (λ z. omega arith)) in
+      let p : ◌≡◌ {A = ℕ} (cond (P f) 1 0) (cond (P h) 1 0) = ap (λ k. cond (P k) 1 0) e in
+      let q : ◌≡◌ {A = ℕ} (cond (Q f) 1 0) (cond (Q h) 1 0) = ap (λ k. cond (Q k) 1 0) e in
+      omega (arith, rest, p, q)
+  | inr e ↦
+      let rest = differ P Q (f + 1) n h (omega arith) (omega arith) same in
+      let q : ◌≡◌ {A = ℕ} (cond (Q f) 1 0) (cond (P f) 1 0) = ap (λ b. cond b 1 0) (same f e) in
+      omega (arith, rest, q)
+]
 
-module _ (rs : List FrameRecord) (k m f n : ℕ) (long : f < length rs) where
+-- The count as one frame gets another fix count: of a pageable frame, and of another.
+module _ (c : Config) (rs ts : List FrameRecord) (f n fixed : ℕ) (counts : IsCounted c rs fixed) (long : length rs ≡ 256) (row : f < 256) (one : ts ≡ with_fixes rs f n) where
   abbrev test : ℕ → Bool
   test g = ltb 0 (fixes_in rs g)
 
   abbrev after : ℕ → Bool
   after g = ltb 0 (fixes_in (with_fixes rs f n) g)
 
-  here : after f ≡ ltb 0 n
-  here = ap (ltb 0) (fixes_here rs f _ long)
-
   there : (g : ℕ) → (g ≡ f → ⊥) → after g ≡ test g
   there g ne = ap (ltb 0) (fixes_there rs f _ g ne)
 
-  -- a pageable frame's count changes
-  pub changed : (fixed was is : ℕ) → (leb k f && ltb f m) ≡ true → fixed ≡ fixed_in rs k (m - k)
-      → was ≡ cond (ltb 0 (fixes_in rs f)) 1 0 → is ≡ cond (ltb 0 n) 1 0
-      → (fixed ≤ m - k) × (is ≤ 1) × (was ≤ fixed + is) × (fixed + is - was ≡ fixed_in (with_fixes rs f n) k (m - k))
-  changed fixed was is t e w i =
-      let a = and_parts (leb k f) _ t in
-      let low : k ≤ f = leb-true _ _ a.0 in
-      let high : f < m = ltb-true _ _ a.1 in
-      let p = point test after k (m - k) f low (omega arith) there (ltb 0 (fixes_in rs f)) (ltb 0 n) refl here in
-      let bound = most test k (m - k) in
-      let small : is ≤ 1 = elim (ltb 0 n) as (λ b. is ≡ cond b 1 0 → is ≤ 1) [ true ↦ λ q. omega arith | false ↦ λ q. omega arith ] i in
-      (omega arith, small, omega arith, omega arith)
+  whole : (k : ℕ) → k ≡ counted after c.supervisor (c.frames - c.supervisor) → IsCounted c ts k
+  whole k e = record { count = e ∙ ap (λ xs. fixed_in xs c.supervisor (c.frames - c.supervisor)) (sym one); few = counts.few }
 
-  -- another frame's does
-  pub other : (leb k f && ltb f m) ≡ false → fixed_in (with_fixes rs f n) k (m - k) ≡ fixed_in rs k (m - k)
-  other t = counted_same test after k (m - k) (λ g a b. there g (λ e. outside g a b e (and_cases (leb k f) (ltb f m) t)))
+  pub recounted : (was is : ℕ) → true ≡ (leb c.supervisor f && ltb f c.frames) → was ≡ cond (test f) 1 0 → is ≡ cond (ltb 0 n) 1 0
+      → (was ≤ fixed + is) × IsCounted c ts (fixed + is - was)
+  recounted was is t w i =
+      let a = and_parts (leb c.supervisor f) _ (sym t) in
+      let low : c.supervisor ≤ f = leb-true _ _ a.0 in
+      let high : f < c.frames = ltb-true _ _ a.1 in
+      let d = differ test after c.supervisor (c.frames - c.supervisor) f low (omega arith) there in
+      let here : cond (after f) 1 0 ≡ is = ap (λ k. cond (ltb 0 k) 1 0) (fixes_here rs f _ (omega arith)) ∙ sym i in
+      let count = counts.count in
+      (omega arith, whole _ (omega arith))
+
+  pub uncounted : false ≡ (leb c.supervisor f && ltb f c.frames) → IsCounted c ts fixed
+  uncounted t = whole fixed (counts.count ∙ sym (counted_same test after c.supervisor (c.frames - c.supervisor) (λ g a b. there g (λ e. outside g a b e (and_cases _ _ (sym t))))))
     where
-      outside : (g : ℕ) → k ≤ g → g < k + (m - k) → g ≡ f → (leb k f ≡ false) ⊎ (ltb f m ≡ false) → ⊥
+      outside : (g : ℕ) → c.supervisor ≤ g → g < c.supervisor + (c.frames - c.supervisor) → g ≡ f → (leb c.supervisor f ≡ false) ⊎ (ltb f c.frames ≡ false) → ⊥
       outside g a b e (inl q) = let z = leb-false _ _ q in omega arith
       outside g a b e (inr q) = let z = ltb-false _ _ q in omega arith

@@ -1,36 +1,41 @@
--- What the tests of the calls look at: what IPL was given, main storage, and the frame table. Keys and parts are left out.
-use Rattle.std.specs.Prelude.{ℕ, List, [], Result, Ok, Err}
-use Rattle.layout.specs.Config.{config_of}
+-- What a machine keeps of its frames and pages, and what the tests of the calls look at.
+use Rattle.std.specs.Prelude.{◌≡◌, ℕ, ◌-◌, ◌/◌, ◌≤◌, List, [], Ok, Result, nat_le}
 use Rattle.model.specs.declared.calls.Refusal.{Refusal}
+use Rattle.model.specs.declared.calls.Refusal.TheVariants.{Sizes, Key}
 use Rattle.model.specs.declared.shape.FrameRecord.{FrameRecord}
 use Rattle.model.specs.declared.shape.Request.{Request}
-use Rattle.model.specs.Refusals as rules
+use Rattle.model.specs.Layout.{fixed_in}
+use Rattle.model.specs.Refusals.{and_then, page_key, right_length, unless, where_is}
 use Rattle.model.specs.World.{Config, World}
-use Rattle.table.specs.Table.{records_of}
-use Rattle.state.specs.declared.state.State.{State}
 
-abbrev pub config_in : State → Config
-config_in st = config_of st.layout
+-- What IPL was given, and the records of the frame table, frame 0 first.
+pub record Contents : Type 0 where
+  pub config : Config
+  pub records : List FrameRecord
 
-abbrev pub records_in : State → List FrameRecord
-records_in st = records_of st.table
+-- So many pageable frames have a fixed page, and there are no more frames than the table has records.
+pub record IsCounted (c : Config) (rs : List FrameRecord) (fixed : ℕ) : Type 0 where
+  pub count : fixed ≡ fixed_in rs c.supervisor (c.frames - c.supervisor)
+  pub few : c.frames ≤ 256
 
-abbrev pub bare : State → List ℕ → World (Unit {0}) (Unit {0}) (Unit {0})
+-- The contents and main storage as a machine. Keys and parts are left out.
+abbrev pub bare : Contents → List ℕ → World (Unit {0}) (Unit {0}) (Unit {0})
 bare st s = record {
-  config = config_in st;
+  config = st.config;
   storage = s;
   keys = [];
-  records = records_in st;
+  records = st.records;
   translator = tt;
   policy = tt;
   store = tt;
 }
 
--- A request of the code, as the rules have it.
-abbrev pub asked : Request → rules.Request
-asked q = record { page = q.page; key = q.key; frame = q.frame }
+-- The request for a page by its number: 5, 4.
+abbrev pub request_for : {T P S : Type 0} → World T P S → ℕ → Result Request Refusal
+request_for w p = and_then (page_key w.config p) (λ own. Ok (record { page = p; key = own; frame = where_is w p }))
 
--- What a test of the code answers, as the rules have it.
-abbrev pub asked_in : Result Request Refusal → Result rules.Request Refusal
-asked_in (Ok q) = Ok (asked q)
-asked_in (Err why) = Err why
+-- The request for a page by an address in it, with a key that is handed in, as Load and Store begin: 32, 36, 5, 4.
+abbrev pub request_at : {T P S : Type 0} → World T P S → ℕ → ℕ → Result Request Refusal
+request_at w a key =
+    and_then (unless (right_length w) Sizes) (λ _.
+    and_then (unless (nat_le key 15) Key) (λ _. request_for w (a / 2048)))

@@ -1,2 +1,1 @@
-pub mod Lending
-pub mod Loops
+pub mod Sweeps

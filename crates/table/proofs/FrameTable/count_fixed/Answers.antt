@@ -1,26 +1,12 @@
-use Rattle.std.proofs.Common.{true, false, sym, ◌∙◌, arith}
-use Rattle.table.specs.Table.{records_of}
-use Rattle.table.proofs.Loops.{fixed_more, fixed_none}
+use Rattle.std.proofs.Common.{◌∙◌, ltb, rules, tests, sym, refl}
+use Rattle.std.proofs.lemmas.Iterator.{YieldsList-from_range}
+use Rattle.std.proofs.lemmas.Iterator.Consumers.{YieldsList-from_filter, count_from_yields_List}
+use Rattle.model.specs.Layout.{fixes_in}
+use Rattle.table.proofs.Sweeps.{counted-length_filter}
 use Rattle.table.proofs.FrameTable.count_fixed.Goals as goal
-use Rattle.table.proofs.FrameTable.count_fixed.Goals.{then-is_fixed, else-is_fixed}
-
-pub loop-f-preserved : goal.loop-f-preserved
-loop-f-preserved c =
-    elim c.if-is_fixed.branch [
-      | then-is_fixed w ↦
-          let turn = fixed_more (records_of c.args.self.now) c.loop-f.f c.args.past true c.loop-f-test.true (sym c.is_fixed.ensures ∙ w.if-is_fixed.true) in
-          let all = c.loop-f.invariant.0 in
-          let now = w.count-is in
-          (omega arith, omega arith)
-      | else-is_fixed w ↦
-          let turn = fixed_more (records_of c.args.self.now) c.loop-f.f c.args.past false c.loop-f-test.true (sym c.is_fixed.ensures ∙ w.if-is_fixed.false) in
-          let all = c.loop-f.invariant.0 in
-          let now = w.count-is in
-          (omega arith, omega arith)
-    ]
 
 pub returns : goal.returns
 returns c =
-    let last = fixed_none (records_of c.args.self.now) c.loop-f.f c.args.past c.loop-f-test.false in
-    let all = c.loop-f.invariant.0 in
-    omega arith
+    count_from_yields_List c.filter.result _ c.count.ensures.ran
+    (YieldsList-from_filter _ (λ g. ltb 0 (fixes_in c.args.self.now g)) (YieldsList-from_range c.args.first c.args.past _ c.filter.ensures.source refl) c.filter.ensures.closure (λ x b q k. search (rules, tests)))
+    ∙ sym (counted-length_filter _ c.args.first _)

@@ -1,25 +1,13 @@
-use Rattle.std.proofs.Common.{ap, ◌∙◌}
-use Rattle.layout.proofs.Made.{segment_fails, segment_passes, segments_pass}
-use Rattle.layout.proofs.Sweeps.{all}
-use Rattle.model.specs.Layout.{segments_are}
-use Rattle.layout.specs.Config.{config_of}
+use Rattle.std.proofs.Common.{rules, refl, arith}
+use Rattle.std.proofs.lemmas.Iterator.{YieldsList-from_range}
+use Rattle.std.proofs.lemmas.Iterator.Search.{all_from_yields_List}
+use borrow.Author.Tests.{tests}
+use Rattle.layout.proofs.Made.{right, segments_are-list_all}
 use Rattle.layout.proofs.layout.Layout.segments_are.Goals as goal
-
-pub loop-segment-init : goal.loop-segment-init
-loop-segment-init c =
-    ap (segments_are (config_of c.args.self.now) c.args.storage.now 0) (all c.segment_entries-count.result ∙ c.segment_entries-count.ensures)
-
-pub loop-segment-preserved : goal.loop-segment-preserved
-loop-segment-preserved c =
-    segment_passes (config_of c.args.self.now) c.args.storage.now c.loop-segment.segment c.segment_entries-count.result _
-    c.loop-segment-test.true c.if-not-segment_right.ensures c.loop-segment.invariant
-
-pub returns-then-not-segment_right : goal.returns-then-not-segment_right
-returns-then-not-segment_right c =
-    segment_fails (config_of c.args.self.now) c.args.storage.now c.loop-segment.segment c.segment_entries-count.result _
-    c.loop-segment-test.true c.if-not-segment_right.ensures c.loop-segment.invariant
 
 pub returns : goal.returns
 returns c =
-    segments_pass (config_of c.args.self.now) c.args.storage.now c.loop-segment.segment c.segment_entries-count.result _
-    c.loop-segment-test.false c.loop-segment.invariant
+    let layout = c.args.self.now in
+    let s = c.args.storage.now in
+    rw (← c.segment_entries.ensures, segments_are-list_all layout s 0 _)
+    (all_from_yields_List (right layout s) _ _ _ c.all.ensures.ran (YieldsList-from_range 0 c.segment_entries.result _ refl (omega arith)) (λ x b q k. search (rules, tests)))
