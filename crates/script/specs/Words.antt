@@ -6,10 +6,16 @@ use Rattle.script.specs.declared.wiring.Policy.{Policy}
 use Rattle.script.specs.declared.wiring.Policy.TheVariants.{Queues, Lru}
 use Rattle.script.specs.declared.wiring.Translator.{Translator}
 use Rattle.script.specs.declared.wiring.Translator.TheVariants.{Walker, Tlb, Tlb2}
+use Rattle.script.specs.declared.wrong.Wrong.{Wrong}
+use Rattle.script.specs.declared.wrong.Wrong.TheVariants.{UnknownWord}
 
--- Reading a word gives the value that it spells, and fails where it spells none.
-abbrev pub Reads : {A E : Type 0} → (A → List ℕ) → List ℕ → Result A E → Type 0
-Reads {A} spelling word r = MatchResult r (λ x. spelling x ≡ word) (λ _. (x : A) → spelling x ≢ word)
+-- Reading a word gives the value that it spells; where it spells none, the error is one that the word is refused with.
+abbrev pub Reads : {A E : Type 0} → (A → List ℕ) → (List ℕ → E → Type 0) → List ℕ → Result A E → Type 0
+Reads {A} spelling Refuses word r = MatchResult r (λ x. spelling x ≡ word) (λ e. Refuses word e × ((x : A) → spelling x ≢ word))
+
+-- A value of a word of WIRE that spells none is an unknown word.
+abbrev pub IsUnknown : List ℕ → Wrong → Type 0
+IsUnknown word e = e ≡ UnknownWord
 
 -- The values of policy=.
 abbrev pub policy_word : Policy → List ℕ

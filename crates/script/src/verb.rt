@@ -1,6 +1,6 @@
 //! The words that begin a command.
 ghost use Rattle.std.specs.Prelude.{◌≡◌, Some};
-ghost use Rattle.script.specs.Verbs.{spelled};
+ghost use Rattle.script.specs.Verbs.{IsNoVerb, spelled};
 ghost use Rattle.script.specs.Words.{Reads};
 
 use crate::wrong::Wrong;
@@ -65,7 +65,7 @@ impl Verb {
 impl FromStr for Verb {
     type Err = Wrong;
 
-    ghost from_str_gives = { Reads spelled };
+    ghost from_str_gives = { Reads spelled IsNoVerb };
 
     fn from_str(word: &str) -> Result<Verb, Wrong> {
         match word {

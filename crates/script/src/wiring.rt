@@ -1,5 +1,5 @@
 //! What a board is wired from, and the words of WIRE that say it.
-ghost use Rattle.script.specs.Words.{kind_word, policy_word, Reads, translator_word};
+ghost use Rattle.script.specs.Words.{IsUnknown, kind_word, policy_word, Reads, translator_word};
 
 use crate::number::limited;
 use crate::verb::Verb;
@@ -79,7 +79,7 @@ fn once<T: Drop>(place: &mut Option<T>, value: T) -> Result<(), Wrong> {
 impl FromStr for Policy {
     type Err = Wrong;
 
-    ghost from_str_gives = { Reads policy_word };
+    ghost from_str_gives = { Reads policy_word IsUnknown };
 
     fn from_str(value: &str) -> Result<Policy, Wrong> {
         match value {
@@ -94,7 +94,7 @@ impl FromStr for Policy {
 impl FromStr for Translator {
     type Err = Wrong;
 
-    ghost from_str_gives = { Reads translator_word };
+    ghost from_str_gives = { Reads translator_word IsUnknown };
 
     fn from_str(value: &str) -> Result<Translator, Wrong> {
         match value {
@@ -110,7 +110,7 @@ impl FromStr for Translator {
 impl FromStr for Kind {
     type Err = Wrong;
 
-    ghost from_str_gives = { Reads kind_word };
+    ghost from_str_gives = { Reads kind_word IsUnknown };
 
     fn from_str(value: &str) -> Result<Kind, Wrong> {
         match value {
