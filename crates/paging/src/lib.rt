@@ -3,6 +3,7 @@
 //! `Own` holds the storage keys, the frame table and the three parts. `bring` gives a page a frame: the frame is taken,
 //! emptied, filled and connected, each step one function on the value of the step before (`taken`).
 #![tactic(auto)]
+
 mod bring;
 mod own;
 mod steps;

@@ -1,16 +1,16 @@
 //! The four steps of a page fault.
 ghost use Rattle.std.specs.Prelude.{◌≡◌, ℕ, ◌-◌, ◌*◌, true, List, slice_index};
 ghost use Rattle.frames.specs.Keys.{changed};
-ghost use Rattle.model.specs.Steps.{chosen, connected, emptied as emptied_by, emptying, filled as filled_by, put_out, read_in, taken as taken_by, taken_frame};
+ghost use Rattle.model.specs.Steps.{chosen, connected, emptied as emptied_by, emptying, fill_frame, filled as filled_by, put_out, read_in, taken as taken_by, taken_frame};
 ghost use Rattle.paging.specs.Seen.{access_for, rules_of, seen, with_store};
-ghost use Rattle.state.specs.Bare.{config_in};
-ghost use Rattle.storage.specs.Bytes.{frame as frame_bytes, put_frame};
+ghost use Rattle.storage.specs.Bytes.{frame as frame_bytes};
 
 use crate::Own;
 use frames::{Policy, is_changed};
 use layout::entries::{never_written, put_entry};
 use pages::store::PageStore;
 use storage::{PAGE, clear_page, holds, page};
+use table::NO_PAGE;
 use taken::{Emptied, Filled, Taken};
 use translation::Translator;
 
@@ -19,7 +19,7 @@ fn choose(picked: Option<u8>, supervisor: u8, frames: u16) -> u8
     ensures { result ≡ chosen supervisor frames picked }
 {
     match picked {
-        Some(frame) if frame >= supervisor && (frame as u16) < frames => frame,
+        Some(frame) if frame >= supervisor && u16::from(frame) < frames => frame,
         _ => supervisor,
     }
 }
@@ -28,15 +28,15 @@ fn choose(picked: Option<u8>, supervisor: u8, frames: u16) -> u8
 fn place(frame: u8) -> usize
     ensures { result ≡ 2048 * frame }
 {
-    PAGE * frame as usize
+    PAGE * usize::from(frame)
 }
 
 impl<T: Translator, P: Policy, S: PageStore> Own<T, P, S> {
     // The slot of a page.
     fn slot(&self, page: u16) -> u32
-        ensures { result ≡ page - (config_in self.now.state).supervisor }
+        ensures { result ≡ page - self.now.state.config.supervisor }
     {
-        page.saturating_sub(self.state.layout().supervisor()) as u32
+        u32::from(page.saturating_sub(self.state.layout().supervisor()))
     }
 
     // Taken: the policy picks a frame, and may turn reference bits off.
@@ -53,7 +53,7 @@ impl<T: Translator, P: Policy, S: PageStore> Own<T, P, S> {
 
     // Puts the bytes of a frame out to the slot of a page.
     pub fn put_out(&mut self, storage: &[u8], frame: u8, of: u16)
-        ensures { seen T.Translator P.Policy S.PageStore self.new storage.now ≡ with_store (seen T.Translator P.Policy S.PageStore self.old storage.now) (put_out S.PageStore.rules (S.PageStore.model self.old.store) (of - (config_in self.old.state).supervisor) (frame_bytes storage.now frame)) }
+        ensures { seen T.Translator P.Policy S.PageStore self.new storage.now ≡ with_store (seen T.Translator P.Policy S.PageStore self.old storage.now) (put_out S.PageStore.rules (S.PageStore.model self.old.store) (of - self.old.state.config.supervisor) (frame_bytes storage.now frame)) }
     {
         let slot = self.slot(of);
         if let Some(bytes) = page(storage, place(frame)) {
@@ -67,15 +67,14 @@ impl<T: Translator, P: Policy, S: PageStore> Own<T, P, S> {
         ensures { seen T.Translator P.Policy S.PageStore self.new storage.new ≡ emptying (rules_of T.Translator P.Policy S.PageStore) true (changed (slice_index self.old.keys frame)) frame old (seen T.Translator P.Policy S.PageStore self.old storage.old) }
     {
         let key = self.keys[frame as usize];
-        let mut bit = 0;
-        if is_changed(key) {
+        let changed = is_changed(key);
+        if changed {
             self.put_out(storage, frame, old);
-        } else {
-            bit = never_written(storage, old);
         }
-        put_entry(storage, old, 4 + 16 * (key / 16) as u16 + bit);
-        self.translator.forget(old as u32);
-        self.state.set_page(frame, 0xFFFF);
+        let bit = u16::from(!changed && never_written(storage, old));
+        put_entry(storage, old, 4 + 16 * u16::from(key / 16) + bit);
+        self.translator.forget(u32::from(old));
+        self.state.set_page(frame, NO_PAGE);
     }
 
     // Emptied: the page that the frame has, if it has one, is vacated.
@@ -84,7 +83,7 @@ impl<T: Translator, P: Policy, S: PageStore> Own<T, P, S> {
         ensures rule { seen T.Translator P.Policy S.PageStore self.new storage.new ≡ emptied_by (rules_of T.Translator P.Policy S.PageStore) taken.frame (seen T.Translator P.Policy S.PageStore self.old storage.old) }
     {
         let old = self.state.record(taken.frame()).page;
-        if old != 0xFFFF {
+        if old != NO_PAGE {
             self.vacate(storage, taken.frame(), old);
         }
         taken.emptied()
@@ -92,7 +91,7 @@ impl<T: Translator, P: Policy, S: PageStore> Own<T, P, S> {
 
     // Reads the slot of a page into a frame.
     fn read_in(&self, storage: &mut [u8], frame: u8, of: u16)
-        ensures { storage.new ≡ put_frame storage.old frame (read_in S.PageStore.rules (S.PageStore.model self.now.store) (of - (config_in self.now.state).supervisor) (frame_bytes storage.old frame)) }
+        ensures { storage.new ≡ fill_frame storage.old frame (read_in S.PageStore.rules (S.PageStore.model self.now.store) (of - self.now.state.config.supervisor) (frame_bytes storage.old frame)) }
     {
         let at = place(frame);
         if holds(storage, at, PAGE) {
@@ -106,7 +105,7 @@ impl<T: Translator, P: Policy, S: PageStore> Own<T, P, S> {
         ensures same { (result.frame ≡ emptied.frame) × (result.page ≡ emptied.page) }
         ensures rule { seen T.Translator P.Policy S.PageStore self.now storage.new ≡ filled_by (rules_of T.Translator P.Policy S.PageStore) emptied.frame emptied.page (seen T.Translator P.Policy S.PageStore self.now storage.old) }
     {
-        if never_written(storage, emptied.page()) == 1 {
+        if never_written(storage, emptied.page()) {
             let _ = clear_page(storage, place(emptied.frame()));
         } else {
             self.read_in(storage, emptied.frame(), emptied.page());
@@ -118,15 +117,15 @@ impl<T: Translator, P: Policy, S: PageStore> Own<T, P, S> {
     // the policy has the frame.
     pub(crate) fn connect(&mut self, storage: &mut [u8], filled: Filled) -> u8
         ensures frame { result ≡ filled.frame }
-        ensures rule { seen T.Translator P.Policy S.PageStore self.new storage.new ≡ connected (rules_of T.Translator P.Policy S.PageStore) filled.frame filled.page (access_for (config_in self.old.state) filled.page) (seen T.Translator P.Policy S.PageStore self.old storage.old) }
+        ensures rule { seen T.Translator P.Policy S.PageStore self.new storage.new ≡ connected (rules_of T.Translator P.Policy S.PageStore) filled.frame filled.page (access_for self.old.state.config filled.page) (seen T.Translator P.Policy S.PageStore self.old storage.old) }
     {
         let frame = filled.frame();
         let page = filled.page();
         self.keys[frame as usize] = self.state.layout().storage_key(page);
-        let bit = never_written(storage, page);
-        put_entry(storage, page, 8 * frame as u16 + bit);
+        let bit = u16::from(never_written(storage, page));
+        put_entry(storage, page, 8 * u16::from(frame) + bit);
         self.state.set_page(frame, page);
-        self.policy.enter(frame as u16);
+        self.policy.enter(u16::from(frame));
         filled.connected()
     }
 }

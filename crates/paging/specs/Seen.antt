@@ -6,16 +6,15 @@ use Rattle.model.specs.Layout.{key_of}
 use Rattle.model.specs.World.{Config, Parts, World, parts_of}
 use Rattle.pages.specs.declared.store.PageStore as stores
 use Rattle.paging.specs.declared.own.Own.{Own}
-use Rattle.state.specs.Bare.{config_in, records_in}
 use Rattle.translation.specs.declared.translator.Translator as translators
 
 -- By what each of the three parts means.
 abbrev pub world_of : {X Y Z T P S : Type 0} → (X → T) → (Y → P) → (Z → S) → Own X Y Z → List ℕ → World T P S
 world_of translator policy store m s = record {
-  config = config_in m.state;
+  config = m.state.config;
   storage = s;
   keys = m.keys;
-  records = records_in m.state;
+  records = m.state.records;
   translator = translator m.translator;
   policy = policy m.policy;
   store = store m.store;

@@ -1,13 +1,13 @@
 -- The steps of a page fault, as the code makes them, and the rules: one hypothesis for each call on the way.
-use Rattle.std.proofs.Common.{◌≡◌, ℕ, ◌+◌, ◌-◌, ◌*◌, ◌<◌, ◌≤◌, Bool, true, false, cond, eqb, ltb, List, length, take, drop, Some, None, Option, sym, refl, ap, ◌∙◌, arith}
+use Rattle.std.proofs.Common.{◌≡◌, ℕ, ◌+◌, ◌*◌, ◌<◌, Bool, true, false, cond, ltb, List, length, take, drop, Some, None, sym, refl, ap, ◌∙◌, arith}
 use borrow.Rule.Slice.PartMut.{put_mid}
-use Rattle.std.proofs.lemmas.Bool.{leb-false, ne_eqb}
-use Rattle.model.specs.Steps.{connected, emptied, faulted, filled, put_out, read_in, taken, taken_frame}
+use Rattle.std.proofs.lemmas.Bool.{cond-true, leb-false, ne_eqb}
+use Rattle.model.specs.Steps.{connected, emptied, faulted, fill_frame, filled, put_out, read_in, taken, taken_frame}
 use Rattle.model.specs.World.{Parts, World}
 use Rattle.pages.specs.declared.fault.StoreRefusal.TheVariants.{BadSlot, NoSuchSlot, WrongLength}
 use Rattle.pages.specs.Store as stores
-use Rattle.storage.proofs.Parted.{page-out, page_short, part, put_mid_lem}
-use Rattle.storage.specs.Bytes.{fits, frame, page, page_at, put_frame, put_page}
+use Rattle.storage.proofs.Parted.{page_short, part, put_mid_lem}
+use Rattle.storage.specs.Bytes.{fits, frame, page, page_at, put_page}
 use Rattle.paging.specs.Seen.{access_for}
 
 -- No page stands there.
@@ -25,16 +25,14 @@ module _ {S : Type 0} (r : stores.Rules S) (m : S) (k : ℕ) (s : List ℕ) wher
       sym (ap (λ b. stores.written r m k (page s at) (cond b (cond (ltb k (r.count m)) (cond (r.bad m k) (Some BadSlot) None) (Some NoSuchSlot)) (Some WrongLength))) (ne_eqb _ _ n))
       ∙ ap (λ x. put_out r m k (page s x)) is
 
-  -- a slot read straight into its frame
-  pub read_told : (f at n slot : ℕ) (buffer left : List ℕ) → at ≡ 2048 * f → n ≡ 2048 → at + 2048 ≤ length s → slot ≡ k → buffer ≡ take n (drop at s)
-      → left ≡ stores.read_into r m slot buffer (stores.refusal_at r m slot (length buffer)) → put_mid at n s left ≡ put_frame s f (read_in r m k (frame s f))
-  read_told f at n slot buffer left is e h same b l =
-      put_mid_lem s left at n e h
-      ∙ ap (put_page s at) (l ∙ ap (λ x. read_in r m x buffer) same ∙ ap (read_in r m k) (b ∙ part s at n e))
-      ∙ ap (λ x. put_page s x (read_in r m k (page s x))) is
-
-  pub not_read : (f at : ℕ) (p : List ℕ) → at ≡ 2048 * f → false ≡ fits 2048 s at → s ≡ put_frame s f p
-  not_read f at p is e = page-out s p at e ∙ ap (λ x. put_page s x p) is
+  -- a slot read straight into its frame, which stands wholly in storage
+  pub read_told : (f at n slot : ℕ) (buffer left : List ℕ) → at ≡ 2048 * f → n ≡ 2048 → fits 2048 s at ≡ true → slot ≡ k → buffer ≡ take n (drop at s)
+      → left ≡ stores.read_into r m slot buffer (stores.refusal_at r m slot (length buffer)) → put_mid at n s left ≡ fill_frame s f (read_in r m k (frame s f))
+  read_told f at n slot buffer left e h whole same b l =
+      put_mid_lem s left at n h
+      ∙ ap (put_page s at) (l ∙ ap (λ x. read_in r m x buffer) same ∙ ap (read_in r m k) (b ∙ part s at n h))
+      ∙ sym (cond-true (fits 2048 s at) (put_page s at (read_in r m k (page s at))) s whole)
+      ∙ ap (λ x. cond (fits 2048 s x) (put_page s x (read_in r m k (page s x))) s) e
 
 -- The four steps.
 pub fault_told : {T P S : Type 0} (r : Parts T P S) (w w₁ w₂ w₃ w₄ : World T P S) (f₁ f₂ f₃ f₄ p p₁ p₂ p₃ : ℕ)
