@@ -6,10 +6,11 @@
 //!
 //! ```text
 //! let mut machine = Machine::new(Tlb::over(Walker::new()), FiveQueues::new(), store);
-//! machine.ipl(&mut storage, 5, 2, 33, &partitions)?;
+//! machine.ipl(&mut storage, Sizes { frames: 5, supervisor: 2, pages: 33 }, &partitions)?;
 //! machine.store(&mut storage, 16384, 1, 7)?;
 //! ```
 #![tactic(auto)]
+
 mod calls;
 mod frame;
 mod ipl;

@@ -1,27 +1,31 @@
 //! What a call does to the frame of its page.
-ghost use Rattle.std.specs.Prelude.{◌≡◌, ℕ, ◌+◌, ◌-◌, ◌*◌, ◌/◌, ◌%◌, List, slice_index};
+ghost use Rattle.std.specs.Prelude.{◌≡◌, ℕ, ◌-◌, List, slice_index};
 ghost use Rattle.model.specs.Steps.{asked, change_off, change_on, fixed_in1, freed_in, loaded_in, settled_in, stored_in, swept};
 ghost use Rattle.machine.specs.Machine.{rules, with_translator, world};
 
 use crate::Machine;
-use frames::{Policy, is_changed, is_referred, reference_on};
+use frames::{KeyBits, Policy, is_changed, reference_on};
 use layout::entries::{entry, put_entry};
 use pages::store::PageStore;
 use storage::{PAGE, byte as byte_at, put_byte};
+use table::NO_PAGE;
 use translation::Translator;
+
+// The value of the change bit in a storage key.
+const CHANGE: u8 = 2;
 
 // The key with its change bit on, and every other bit as it was.
 fn change_on(key: u8) -> u8
     ensures { result ≡ change_on key }
 {
-    if is_changed(key) { key } else { key + 2 }
+    key | CHANGE
 }
 
 // The key with its change bit off, and every other bit as it was.
 fn change_off(key: u8) -> u8
     ensures { result ≡ change_off key }
 {
-    if is_changed(key) { key - 2 } else { key }
+    key & !CHANGE
 }
 
 impl<T: Translator, P: Policy, S: PageStore> Machine<T, P, S> {
@@ -30,10 +34,11 @@ impl<T: Translator, P: Policy, S: PageStore> Machine<T, P, S> {
         ensures real { result ≡ asked (rules T.Translator P.Policy S.PageStore) address frame (world T.Translator P.Policy S.PageStore self.old storage.now) }
         ensures rule { world T.Translator P.Policy S.PageStore self.new storage.now ≡ with_translator (world T.Translator P.Policy S.PageStore self.old storage.now) (T.Translator.rules.translate (T.Translator.model self.old.own.translator) storage.now address).left }
     {
-        match self.own.translator.translate(storage, address) {
-            Ok(real) => real,
-            Err(_) => PAGE * frame as usize + address as usize % PAGE,
-        }
+        let stand_in = PAGE * usize::from(frame) + address as usize % PAGE;
+        self.own
+            .translator
+            .translate(storage, address)
+            .unwrap_or(stand_in)
     }
 
     // A byte is read: the reference bit goes on, and the policy is told.
@@ -42,8 +47,9 @@ impl<T: Translator, P: Policy, S: PageStore> Machine<T, P, S> {
         ensures rule { world T.Translator P.Policy S.PageStore self.new storage.now ≡ loaded_in (rules T.Translator P.Policy S.PageStore) address frame (world T.Translator P.Policy S.PageStore self.old storage.now) }
     {
         let real = self.ask(storage, address, frame);
-        self.own.keys[frame as usize] = reference_on(self.own.keys[frame as usize]);
-        self.own.policy.touch(frame as u16);
+        let key = &mut self.own.keys[usize::from(frame)];
+        *key = reference_on(*key);
+        self.own.policy.touch(u16::from(frame));
         byte_at(storage, real)
     }
 
@@ -53,8 +59,9 @@ impl<T: Translator, P: Policy, S: PageStore> Machine<T, P, S> {
     {
         let real = self.ask(storage, address, frame);
         put_byte(storage, real, byte);
-        self.own.keys[frame as usize] = change_on(reference_on(self.own.keys[frame as usize]));
-        self.own.policy.touch(frame as u16);
+        let key = &mut self.own.keys[usize::from(frame)];
+        *key = change_on(reference_on(*key));
+        self.own.policy.touch(u16::from(frame));
     }
 
     // Fixed once more: at 1 the frame leaves the policy.
@@ -62,7 +69,7 @@ impl<T: Translator, P: Policy, S: PageStore> Machine<T, P, S> {
         ensures { (s : List ℕ) → world T.Translator P.Policy S.PageStore self.new s ≡ fixed_in1 (rules T.Translator P.Policy S.PageStore) frame (world T.Translator P.Policy S.PageStore self.old s) }
     {
         if self.own.state.record(frame).fixes == 0 {
-            self.own.policy.leave(frame as u16);
+            self.own.policy.leave(u16::from(frame));
         }
         self.own.state.fix(frame);
     }
@@ -72,10 +79,10 @@ impl<T: Translator, P: Policy, S: PageStore> Machine<T, P, S> {
         ensures { (s : List ℕ) → world T.Translator P.Policy S.PageStore self.new s ≡ freed_in (rules T.Translator P.Policy S.PageStore) frame (world T.Translator P.Policy S.PageStore self.old s) }
     {
         if self.own.state.record(frame).fixes == 1 {
-            let key = self.own.keys[frame as usize];
+            let key = self.own.keys[usize::from(frame)];
             self.own
                 .policy
-                .return_frame(frame as u16, is_referred(key), is_changed(key));
+                .return_frame(u16::from(frame), KeyBits::from(key));
         }
         self.own.state.free(frame);
     }
@@ -85,16 +92,17 @@ impl<T: Translator, P: Policy, S: PageStore> Machine<T, P, S> {
         ensures { world T.Translator P.Policy S.PageStore self.new storage.new ≡ settled_in (rules T.Translator P.Policy S.PageStore) frame (world T.Translator P.Policy S.PageStore self.old storage.old) }
     {
         let page = self.own.state.record(frame).page;
-        let key = self.own.keys[frame as usize];
-        if page != 0xFFFF && is_changed(key) {
+        let key = self.own.keys[usize::from(frame)];
+        if page != NO_PAGE && is_changed(key) {
             self.own.put_out(storage, frame, page);
-            self.own.keys[frame as usize] = change_off(key);
+            self.own.keys[usize::from(frame)] = change_off(key);
             let settled = entry(storage, page) / 2 * 2;
             put_entry(storage, page, settled);
         }
     }
 
     // The same for every pageable frame, in order.
+    #[tactic(auto, using(layout::proofs::Made::more), unfolding(model::specs::Steps::swept))]
     pub(crate) fn settle_frames(&mut self, storage: &mut [u8])
         ensures { world T.Translator P.Policy S.PageStore self.new storage.new ≡ swept (rules T.Translator P.Policy S.PageStore) (world T.Translator P.Policy S.PageStore self.old storage.old).config.supervisor ((world T.Translator P.Policy S.PageStore self.old storage.old).config.frames - (world T.Translator P.Policy S.PageStore self.old storage.old).config.supervisor) (world T.Translator P.Policy S.PageStore self.old storage.old) }
     {

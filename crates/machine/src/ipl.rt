@@ -1,12 +1,12 @@
 //! IPL.
 ghost use Rattle.std.specs.Prelude.{◌≡◌, ℕ, ◌-◌, List, OnErr};
-ghost use Rattle.layout.specs.Config.{config_of};
+ghost use Rattle.layout.specs.Config.{config_with};
 ghost use Rattle.model.specs.Ipl.{first_fault, fresh, ipl as ipl_rule, returned};
 ghost use Rattle.machine.specs.Machine.{Does, rules, unstarted, world};
 
 use crate::Machine;
-use frames::Policy;
-use layout::Layout;
+use frames::{KeyBits, Policy};
+use layout::{Layout, Sizes};
 use model::calls::IplRefusal;
 use model::shape::Partition;
 use pages::fault::Fault;
@@ -16,6 +16,7 @@ use state::State;
 use translation::Translator;
 
 // The fault of the first of so many slots that cannot be used.
+#[tactic(auto, using(layout::proofs::Made::more), unfolding(model::specs::Ipl::first_fault))]
 fn first_fault<S: PageStore>(store: &S, slots: u32) -> Option<Fault>
     ensures { result ≡ first_fault S.PageStore.rules (S.PageStore.model store.now) 0 slots }
 {
@@ -27,12 +28,19 @@ fn first_fault<S: PageStore>(store: &S, slots: u32) -> Option<Fault>
     None
 }
 
+// A frame neither referred to nor changed.
+const NEITHER: KeyBits = KeyBits {
+    referred: false,
+    changed: false,
+};
+
 // Returns the frames from `first` up to and without `past` to a policy, in order, with both bits off.
+#[tactic(auto, using(layout::proofs::Made::more), unfolding(model::specs::Ipl::returned))]
 fn return_frames<P: Policy>(policy: &mut P, first: u16, past: u16)
     ensures { P.Policy.model policy.new ≡ returned P.Policy.rules first (past - first) (P.Policy.model policy.old) }
 {
     for frame in first..past {
-        policy.return_frame(frame, false, false);
+        policy.return_frame(frame, NEITHER);
     }
 }
 
@@ -54,33 +62,31 @@ impl<T: Translator, P: Policy, S: PageStore> Machine<T, P, S> {
 
     // Writes the tables and starts anew with them.
     fn start(&mut self, storage: &mut [u8], layout: Layout)
-        ensures { world T.Translator P.Policy S.PageStore self.new storage.new ≡ fresh (rules T.Translator P.Policy S.PageStore) (config_of layout) (world T.Translator P.Policy S.PageStore self.old storage.old) }
+        ensures { world T.Translator P.Policy S.PageStore self.new storage.new ≡ fresh (rules T.Translator P.Policy S.PageStore) layout (world T.Translator P.Policy S.PageStore self.old storage.old) }
     {
         layout.write_tables(storage);
         self.own.keys = [0; 256];
         self.own.state = State::started(layout);
         self.own.policy.clear();
         return_frames(&mut self.own.policy, layout.supervisor(), layout.frames());
-        self.own
-            .translator
-            .load_controls(storage, layout.controls());
+        let controls = layout.controls();
+        self.own.translator.load_controls(storage, controls);
     }
 
     /// IPL: so many frames, supervisor frames and virtual pages, and one to five partitions. Refused by 32, 33, 34, and
     /// then everything is as found.
+    #[tactic(auto, unfolding(model::specs::Ipl::ipl))]
     pub fn ipl(
         &mut self,
         storage: &mut [u8],
-        frames: u32,
-        supervisor: u32,
-        pages: u32,
+        sizes: Sizes,
         partitions: &[Partition],
     ) -> Result<(), IplRefusal>
-        ensures rule { Does T.Translator P.Policy S.PageStore (λ q w. ipl_rule q (record { frames = frames; supervisor = supervisor; pages = pages; partitions = partitions.now }) w) result (world T.Translator P.Policy S.PageStore self.old storage.old) (world T.Translator P.Policy S.PageStore self.new storage.new) }
+        ensures rule { Does T.Translator P.Policy S.PageStore (λ q w. ipl_rule q (config_with sizes partitions.now) w) result (world T.Translator P.Policy S.PageStore self.old storage.old) (world T.Translator P.Policy S.PageStore self.new storage.new) }
         ensures refused { OnErr result (world T.Translator P.Policy S.PageStore self.new storage.new ≡ world T.Translator P.Policy S.PageStore self.old storage.old) }
     {
-        let layout = Layout::checked(frames, supervisor, pages, partitions, storage)?;
-        let slots = layout.pages().saturating_sub(layout.supervisor()) as u32;
+        let layout = Layout::checked(sizes, partitions, storage)?;
+        let slots = u32::from(layout.pages().saturating_sub(layout.supervisor()));
         if let Some(fault) = first_fault(&self.own.store, slots) {
             return Err(IplRefusal::Slot(fault));
         }

@@ -11,6 +11,7 @@ use translation::Translator;
 
 impl<T: Translator, P: Policy, S: PageStore> Machine<T, P, S> {
     /// Load: the byte at an address. Refused by 32, 36, 5, 4, 35, 54, and then everything is as found.
+    #[tactic(auto, unfolding(model::specs::Steps::load, model::specs::Refusals::decode_load))]
     pub fn load(&mut self, storage: &mut [u8], address: u32, key: u8) -> Result<u8, Refusal>
         ensures rule { Does T.Translator P.Policy S.PageStore (λ q w. load_rule q address key w) result (world T.Translator P.Policy S.PageStore self.old storage.old) (world T.Translator P.Policy S.PageStore self.new storage.new) }
         ensures refused { OnErr result (world T.Translator P.Policy S.PageStore self.new storage.new ≡ world T.Translator P.Policy S.PageStore self.old storage.old) }
@@ -21,6 +22,7 @@ impl<T: Translator, P: Policy, S: PageStore> Machine<T, P, S> {
     }
 
     /// Store: puts a byte at an address. Refused by 32, 36, 5, 4, 35, 54, and then everything is as found.
+    #[tactic(auto, unfolding(model::specs::Steps::store, model::specs::Refusals::decode_store))]
     pub fn store(
         &mut self,
         storage: &mut [u8],
@@ -39,6 +41,7 @@ impl<T: Translator, P: Policy, S: PageStore> Machine<T, P, S> {
 
     /// Fix: the page stays in its frame until it is freed as often. Refused by 32, 5, 4, 37, 35, 54, and then everything
     /// is as found.
+    #[tactic(auto, unfolding(model::specs::Steps::fix, model::specs::Refusals::decode_fix))]
     pub fn fix(&mut self, storage: &mut [u8], page: u32) -> Result<(), Refusal>
         ensures rule { Does T.Translator P.Policy S.PageStore (λ q w. fix_rule q page w) result (world T.Translator P.Policy S.PageStore self.old storage.old) (world T.Translator P.Policy S.PageStore self.new storage.new) }
         ensures refused { OnErr result (world T.Translator P.Policy S.PageStore self.new storage.new ≡ world T.Translator P.Policy S.PageStore self.old storage.old) }
@@ -50,6 +53,7 @@ impl<T: Translator, P: Policy, S: PageStore> Machine<T, P, S> {
     }
 
     /// Free: takes one Fix back. Refused by 32, 5, 4, 38, 54, and then everything is as found.
+    #[tactic(auto, unfolding(model::specs::Steps::free, model::specs::Refusals::decode_free))]
     pub fn free(&mut self, storage: &[u8], page: u32) -> Result<(), Refusal>
         ensures rule { Does T.Translator P.Policy S.PageStore (λ q w. free_rule q page w) result (world T.Translator P.Policy S.PageStore self.old storage.now) (world T.Translator P.Policy S.PageStore self.new storage.now) }
         ensures refused { OnErr result (world T.Translator P.Policy S.PageStore self.new storage.now ≡ world T.Translator P.Policy S.PageStore self.old storage.now) }
@@ -64,6 +68,7 @@ impl<T: Translator, P: Policy, S: PageStore> Machine<T, P, S> {
 
     /// Purge: ends every lookaside pair that does not agree with the tables. Refused by 32, 54, and then everything is as
     /// found.
+    #[tactic(auto, unfolding(model::specs::Steps::purge, model::specs::Refusals::decode_purge))]
     pub fn purge(&mut self, storage: &[u8]) -> Result<(), Refusal>
         ensures rule { Does T.Translator P.Policy S.PageStore (λ q w. purge_rule q w) result (world T.Translator P.Policy S.PageStore self.old storage.now) (world T.Translator P.Policy S.PageStore self.new storage.now) }
         ensures refused { OnErr result (world T.Translator P.Policy S.PageStore self.new storage.now ≡ world T.Translator P.Policy S.PageStore self.old storage.now) }
@@ -74,6 +79,7 @@ impl<T: Translator, P: Policy, S: PageStore> Machine<T, P, S> {
     }
 
     /// Settle: every changed page is written to its slot. Refused by 32, 54, and then everything is as found.
+    #[tactic(auto, unfolding(model::specs::Steps::settle, model::specs::Refusals::decode_settle))]
     pub fn settle(&mut self, storage: &mut [u8]) -> Result<(), Refusal>
         ensures rule { Does T.Translator P.Policy S.PageStore (λ q w. settle_rule q w) result (world T.Translator P.Policy S.PageStore self.old storage.old) (world T.Translator P.Policy S.PageStore self.new storage.new) }
         ensures refused { OnErr result (world T.Translator P.Policy S.PageStore self.new storage.new ≡ world T.Translator P.Policy S.PageStore self.old storage.old) }

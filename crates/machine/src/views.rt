@@ -77,7 +77,9 @@ impl<T: Translator, P: Policy, S: PageStore> Machine<T, P, S> {
 
     /// The three parts, of which a machine is made anew.
     pub fn into_parts(self) -> (T, P, S)
-        ensures { (result.0 ≡ self.own.translator) × (result.1 ≡ self.own.policy) × (result.2 ≡ self.own.store) }
+        ensures translator { result.0 ≡ self.own.translator }
+        ensures policy { result.1 ≡ self.own.policy }
+        ensures store { result.2 ≡ self.own.store }
     {
         let Machine { own } = self;
         let Own {
