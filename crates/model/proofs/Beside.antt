@@ -1,5 +1,5 @@
 -- A machine beside the flat machine: a page brought in, and a sweep, keep them side by side.
-use Rattle.std.proofs.Common.{◌≡◌, ℕ, zero, suc, ◌+◌, ◌-◌, ◌*◌, ◌/◌, ◌<◌, ◌≤◌, Bool, true, false, cond, not, ◌&&◌, eqb, List, length, get_or, Some, None, Option, sym, refl, ap, ◌∙◌, inl, inr, arith}
+use Rattle.std.proofs.Common.{◌≡◌, ℕ, zero, suc, ◌+◌, ◌-◌, ◌*◌, ◌/◌, ◌<◌, ◌≤◌, Bool, true, false, cond, not, ◌&&◌, eqb, List, length, get_or, Some, None, Option, sym, refl, ap, ◌∙◌, subst, inl, inr, arith}
 use Rattle.std.proofs.lemmas.List.{get_or-set_same, get_or-set_other}
 use Rattle.std.proofs.lemmas.Bool.{and_from, and_parts, cases_eq, cond_both, eqb-false, ne_eqb, not-true}
 use Rattle.frames.specs.Keys.{access_of, changed}
@@ -15,7 +15,7 @@ use Rattle.model.proofs.Memory.{Absent, Content, Counts, Entries, backing, chang
 use Rattle.model.proofs.Moved.{connected_content, connected_counts, connected_entries}
 use Rattle.model.proofs.Own.{in_keys, read_in_lem, real_page, taken_alike}
 use Rattle.model.proofs.Place.{frame_fits}
-use Rattle.model.proofs.Ready.{filling_long, into_long, p_usable}
+use Rattle.model.proofs.Ready.{filled_after, filling_long, into_long, p_usable}
 use Rattle.storage.specs.Bytes.{frame, half, page, put_half, word, zeros}
 use Rattle.storage.specs.Over.{laws}
 
@@ -98,6 +98,18 @@ module _ {T P S : Type 0} (r : Parts T P S) (law : LawfulParts r) where
           counts = vacated_counts r.store law.store w.config k.fits w.records k.table w.storage m.entries f fp ne unfixed fixes m.counts;
         }
 
+    -- the world after the fault, with other main storage
+    abbrev stored_as : List ℕ → World T P S
+    stored_as s = let next = faulted r f p key w in record {
+      config = next.config;
+      storage = s;
+      keys = next.keys;
+      records = next.records;
+      translator = next.translator;
+      policy = next.policy;
+      store = next.store;
+    }
+
     pub faulted_mem : Mem r (faulted r f p key w) bytes fixes
     faulted_mem =
         let h = hollow_mem (not (eqb (page_in w.records f) no_page)) (changed (get_or (taking r w).keys f 0)) refl refl in
@@ -113,11 +125,11 @@ module _ {T P S : Type 0} (r : Parts T P S) (law : LawfulParts r) where
         ap (λ x. cond (eqb (bit15 w1.storage p) 1) zeros x)
         (read_in_lem r.store w1.store (p - w.config.supervisor) (frame w1.storage f) (p_usable r law w k p key part long absent room) (into_long r law w k p key part long absent room)) in
         let kl = in_keys w.config k.fits w1.records w1.keys e.0.keyed f fp.1 in
-        record {
+        subst (λ s. Mem r (stored_as s) bytes fixes) (sym (filled_after r law w k p key part long absent room)) (record {
           entries = connected_entries r.store w.config k.fits w1.records e.0.table w1.storage h.entries f p key fp e.1 part gone b bl;
           content = connected_content r.store w.config k.fits w1.records e.0.table w1.storage h.entries f p key fp e.1 part gone b bl w1.keys kl w1.store bytes h.content is;
           counts = connected_counts r.store w.config k.fits w1.records e.0.table w1.storage h.entries f p key fp e.1 part gone b bl (e.3 f ∙ unfixed) fixes h.counts;
-        }
+        })
 
   -- the tables are right for any page of a partition
   module _ (w : World T P S) (k : Consistent r w) (bytes fixes : List ℕ) (m : Mem r w bytes fixes) where

@@ -1,5 +1,5 @@
 -- Every call keeps the machine's own parts, whatever main storage holds, and tells its answer or the first refusal.
-use Rattle.std.proofs.Common.{◌≡◌, ℕ, zero, suc, ◌+◌, ◌-◌, ◌*◌, ◌/◌, ◌<◌, ◌≤◌, Bool, true, false, cond, not, ◌&&◌, eqb, ◌⊎◌, List, [], ◌∷◌, length, get_or, set, Some, None, Ok, Err, Option, Result, sym, refl, ap, ◌∙◌, subst, inl, inr, arith}
+use Rattle.std.proofs.Common.{◌≡◌, ℕ, zero, suc, ◌+◌, ◌-◌, ◌*◌, ◌/◌, ◌<◌, ◌≤◌, min, Bool, true, false, cond, not, ◌&&◌, eqb, ◌⊎◌, List, [], ◌∷◌, length, get_or, set, Some, None, Ok, Err, Option, Result, sym, refl, ap, ◌∙◌, subst, inl, inr, arith}
 use Rattle.std.specs.Result.{result_err}
 use Rattle.std.proofs.lemmas.List.{length-set}
 use Rattle.std.proofs.lemmas.Bool.{and_from, and_left, and_parts, cases_eq, cond-false, cond-true, cond_both, eq-eqb, eqb-false, eqb-true, lt-ltb, ne_eqb, not-true}
@@ -107,10 +107,16 @@ module _ {T P S : Type 0} (r : Parts T P S) (law : LawfulParts r) where
         outside g q (inl l) = let a = fp.0 in omega arith
         outside g q (inr l) = let a = fp.1 in omega arith
 
+  -- a count that has gone up is above 0
+  counted_on : (x : ℕ) → 0 < min 255 (x + 1)
+  counted_on zero = omega arith
+  counted_on (suc x) = omega arith
+
   -- a page fixed once more
   pub fixed_own : (w : World T P S) → Consistent r w → (f : ℕ) → Pageable w.config f → (page_in w.records f ≡ no_page → ⊥) → Consistent r (fixed_in1 r f w)
   fixed_own w k f fp ne =
-      let n = fixes_in w.records f + 1 in
+      let n = min 255 (fixes_in w.records f + 1) in
+      let some : 0 < n = counted_on (fixes_in w.records f) in
       let leave = r.policy.leave w.policy f in
       let gone : (g : ℕ) → r.policy.times leave g ≡ cond (eqb g f) 0 (r.policy.times w.policy g) = λ g. law.policy.leave_times w.policy f g k.good.policy in
       let h = cond_both (eqb (fixes_in w.records f) 0) leave w.policy (λ m. r.policy.good m × Holding r.policy w.config (counts w k f n fp ne) m)

@@ -1,12 +1,12 @@
 -- A page that has passed a call's tests is brought in: its frame has it, and the walk leads there.
 use Rattle.std.proofs.Common.{◌≡◌, ℕ, ◌+◌, ◌-◌, ◌*◌, ◌/◌, ◌%◌, ◌^◌, ◌<◌, ◌≤◌, Bool, true, false, cond, not, eqb, List, length, get_or, Some, None, Option, sym, refl, ap, ◌∙◌, subst, arith}
-use Rattle.std.proofs.lemmas.Bool.{and_parts, cases_eq, eqb-false, eq-eqb, and_from, false≢true, cond_both}
+use Rattle.std.proofs.lemmas.Bool.{and_parts, cases_eq, cond-true, eqb-false, eq-eqb, and_from, false≢true, cond_both, le-leb}
 use Rattle.frames.specs.Keys.{changed}
 use Rattle.model.specs.declared.shape.Request.{Request}
 use Rattle.model.specs.Law.{Consistent, Fits, Pageable}
 use Rattle.model.specs.Layout.{bit15, entry_at, entry_for, fixed_in, key_of, no_page, page_in, segment_at, segment_entries, segment_word, segments}
 use Rattle.model.specs.Refusals.{full, tables_right, where_is}
-use Rattle.model.specs.Steps.{brought, brought_frame, emptied, emptying, faulted, read_in, taken, taken_frame, taking}
+use Rattle.model.specs.Steps.{brought, brought_frame, emptied, emptying, faulted, fill_frame, read_in, taken, taken_frame, taking}
 use Rattle.model.specs.World.{Config, LawfulParts, Parts, World}
 use Rattle.model.proofs.Decoded.{Reached}
 use Rattle.model.proofs.Fault.{BodyOf, Brought, emptied_body, faulted_own, handed_to, slot_of}
@@ -14,7 +14,7 @@ use Rattle.model.proofs.Find.{frame_none, frame_some, page_is_lem}
 use Rattle.model.proofs.Own.{frame_listed, read_in_lem}
 use Rattle.model.proofs.Place.{e_long, e_other, e_same, e_segment, f_entry, f_long, f_segment, frame_fits, listed}
 use Rattle.pages.specs.Store as stores
-use Rattle.storage.specs.Bytes.{frame, half, put_half, put_page, word, zeros}
+use Rattle.storage.specs.Bytes.{fits, frame, half, put_half, put_page, word, zeros}
 use Rattle.storage.specs.Over.{laws}
 
 -- A page in frame f: its entries name it, and all is consistent.
@@ -139,17 +139,27 @@ module _ {T P S : Type 0} (r : Parts T P S) (law : LawfulParts r) (w : World T P
     pub p_inside : (w.config.supervisor ≤ p) × (p < w.config.pages) × (key ≤ 15)
     p_inside = k.fits.keys p key part
 
+    -- the frame stands wholly in main storage
+    pub filled_is : fill_frame hollow.storage into filling ≡ put_page hollow.storage (2048 * into) filling
+    filled_is =
+        cond-true (fits 2048 hollow.storage (2048 * into)) _ _
+        (le-leb (2048 * into + 2048) (length hollow.storage) (frame_fits w.config k.fits hollow.storage hollow_long into into_pageable.1))
+
+    pub filled_after : (faulted r into p key w).storage ≡ after w.config k.fits hollow.storage hollow_long into p into_pageable p_inside.1 filling filling_long
+    filled_after = ap (λ s. put_half s (entry_at p) (8 * into + bit15 s p)) filled_is
+
     pub fault_ready : word w.storage (segment_at (p / 32)) ≡ segment_word w.config (p / 32) → Ready r p key w into (faulted r into p key w)
     fault_ready seg =
         let pv = p_inside.1 in
         let m = k.fits.most in
-        let e = after_entry w.config k.fits hollow.storage hollow_long into p into_pageable pv filling filling_long in
+        let e = ap (λ s. half s (entry_at p)) filled_after ∙ after_entry w.config k.fits hollow.storage hollow_long into p into_pageable pv filling filling_long in
         record {
           brought = faulted_own r law w k p key part absent room long;
           part = part;
-          long = after_long w.config k.fits hollow.storage hollow_long into p into_pageable pv filling filling_long;
+          long = ap length filled_after ∙ after_long w.config k.fits hollow.storage hollow_long into p into_pageable pv filling filling_long;
           segment =
-              after_segment w.config k.fits hollow.storage hollow_long into p into_pageable pv filling filling_long (p / 32) (omega arith)
+              ap (λ s. word s (segment_at (p / 32))) filled_after
+              ∙ after_segment w.config k.fits hollow.storage hollow_long into p into_pageable pv filling filling_long (p / 32) (omega arith)
               ∙ hollow_segment (p / 32) (omega arith) ∙ seg;
           entry = omega (arith, e);
         }

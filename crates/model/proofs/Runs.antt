@@ -1,7 +1,8 @@
 -- Every call keeps the two machines side by side, and so does every run: the law over whole runs and over disturbed runs.
-use Rattle.std.proofs.Common.{◌≡◌, ℕ, zero, suc, ◌+◌, ◌-◌, ◌*◌, ◌/◌, ◌%◌, ◌<◌, ◌≤◌, Bool, true, false, cond, ◌&&◌, eqb, ltb, List, [], ◌∷◌, length, get_or, set, replicate, Some, None, Ok, Err, Option, Result, sym, refl, ap, ◌∙◌, subst, inl, inr, arith}
+use Rattle.std.proofs.Common.{◌≡◌, ℕ, zero, suc, ◌+◌, ◌-◌, ◌*◌, ◌/◌, ◌%◌, ◌<◌, ◌≤◌, min, Bool, true, false, cond, ◌&&◌, eqb, ltb, List, [], ◌∷◌, length, get_or, set, replicate, Some, None, Ok, Err, Option, Result, sym, refl, ap, ◌∙◌, subst, inl, inr, arith}
 use Rattle.std.specs.Result.{IsOk}
 use Rattle.std.proofs.lemmas.List.{length-replicate}
+use Rattle.std.proofs.Math.Nat.{min-eq_right}
 use Rattle.std.proofs.lemmas.Bool.{and_from, cases_eq, cond-false, cond-true, cond_both, eq-eqb, false≢true, le-ltb, lt-ltb, ltb-false, ltb-true}
 use Rattle.frames.specs.Keys.{changed, reference_on}
 use Rattle.model.specs.declared.calls.Reply.{Reply}
@@ -20,7 +21,7 @@ use Rattle.model.specs.Layout.{controls_of, counted, entries_are, entry_at, entr
 use Rattle.model.specs.Refusals.{and_then, decode_fix, decode_free, decode_load, decode_purge, decode_settle, decode_store, fixes_of, unless, where_is}
 use Rattle.model.specs.Steps.{brought, brought_frame, byte_answer, change_on, done_answer, fix, fixed_in1, fixing, free, freed_in, freeing, load, loaded_in, loading, purge, purging, settle, store, stored_in, storing, sweeping, swept, worked}
 use Rattle.model.specs.World.{Config, GoodParts, LawfulParts, Parts, World}
-use Rattle.model.proofs.Answered.{Side, agree_cases, asked_is, byte_is, fix_agrees, free_agrees, load_agrees, placed, reached_mem, stands, store_agrees}
+use Rattle.model.proofs.Answered.{Side, agree_cases, asked_is, byte_is, counts_agree, fix_agrees, free_agrees, load_agrees, placed, reached_mem, stands, store_agrees}
 use Rattle.model.proofs.Beside.{Mem, frames_right, swept_mem}
 use Rattle.model.proofs.Decoded.{fix_ok, free_ok, load_ok, store_ok}
 use Rattle.model.proofs.Find.{all_entries, all_segments, frame_none, frame_some}
@@ -145,8 +146,10 @@ module _ {T P S : Type 0} (r : Parts T P S) (law : LawfulParts r) where
         let kn = d.brought.consistent in
         let mn = reached_mem r law w k bytes fixes m p q h.0 h.1 in
         let ne = ready_page r law p q.key w next f d in
-        let n = fixes_in next.records f + 1 in
+        let n = min 255 (fixes_in next.records f + 1) in
         let old : get_or fixes p 0 ≡ fixes_in next.records f = ap (λ x. get_or fixes x 0) (sym d.brought.has) ∙ mn.counts.inside f fp ne in
+        let before : get_or fixes p 0 ≡ fixes_of w.records (where_is w p) = sym (counts_agree r law w k bytes fixes m p q.key h.0.part (where_is w p) refl) in
+        let exact : n ≡ fixes_in next.records f + 1 = let l = h.2 in min-eq_right (omega arith) in
         let up : ltb 0 n ≡ true = lt-ltb 0 n (omega arith) in
         let total = elim (cases_eq (fixes_in next.records f) 0)
         as (λ _. fixed_pages (set fixes (page_in next.records f) n) 0 next.config.pages ≡ fixed_in (set next.records f (record { page = page_in next.records f; fixes = n })) next.config.supervisor (next.config.frames - next.config.supervisor)) [
@@ -156,7 +159,7 @@ module _ {T P S : Type 0} (r : Parts T P S) (law : LawfulParts r) where
           refl,
           (λ _. tt),
           record {
-            mem = subst (λ x. Mem r (fixed_in1 r f next) bytes (set fixes p (x + 1))) (sym old)
+            mem = subst (λ x. Mem r (fixed_in1 r f next) bytes (set fixes p x)) (exact ∙ ap (λ x. x + 1) (sym old))
                 (count_mem next kn mn f n p fp ne d.brought.has next.translator (fixed_in1 r f next).policy total);
             same = sym d.brought.same_config;
           },

@@ -1,5 +1,5 @@
 -- The page fault in its four steps, and what the six calls leave. Each rule is total and names all that it leaves.
-use Rattle.std.specs.Prelude.{ℕ, zero, suc, ◌+◌, ◌-◌, ◌*◌, ◌/◌, ◌%◌, Bool, cond, not, ◌&&◌, List, length, Some, None, Ok, Err, Option, Result, ◌==◌, nat_le, nat_lt, slice_index, slice_set, unwrap_or}
+use Rattle.std.specs.Prelude.{ℕ, zero, suc, ◌+◌, ◌-◌, ◌*◌, ◌/◌, ◌%◌, min, Bool, cond, not, ◌&&◌, List, length, Some, None, Ok, Err, Option, Result, ◌==◌, nat_le, nat_lt, slice_index, slice_set, unwrap_or}
 use Rattle.std.specs.Result.{result_map_both, result_unwrap_or}
 use Rattle.frames.specs.Keys.{access_of, changed, reference_on, referred}
 use Rattle.frames.specs.Policy.{Took}
@@ -13,7 +13,7 @@ use Rattle.model.specs.Layout.{bit15, entry_at, fixes_in, no_page, page_in}
 use Rattle.model.specs.Refusals.{decode_fix, decode_free, decode_load, decode_purge, decode_settle, decode_store}
 use Rattle.model.specs.World.{Parts, World}
 use Rattle.pages.specs.Store as stores
-use Rattle.storage.specs.Bytes.{frame, half, put_frame, put_half, zeros}
+use Rattle.storage.specs.Bytes.{fits, frame, half, put_frame, put_half, zeros}
 
 -- The key with its change bit on, and off; every other bit as it was.
 abbrev pub change_on : ℕ → ℕ
@@ -33,6 +33,10 @@ put_out r m k page = stores.written r m k page (stores.refusal_at r m k (length 
 
 abbrev pub read_in : {S : Type 0} → stores.Rules S → S → ℕ → List ℕ → List ℕ
 read_in r m k buffer = stores.read_into r m k buffer (stores.refusal_at r m k (length buffer))
+
+-- Main storage with a frame filled; as it was where the frame does not stand wholly in it.
+abbrev pub fill_frame : List ℕ → ℕ → List ℕ → List ℕ
+fill_frame s f bytes = cond (fits 2048 s (2048 * f)) (put_frame s f bytes) s
 
 -- The answers of all six calls, of one type.
 abbrev pub byte_answer : Result ℕ Refusal → Result Reply Refusal
@@ -81,7 +85,7 @@ module _ {T P S : Type 0} (r : Parts T P S) where
   abbrev pub filled : ℕ → ℕ → World T P S → World T P S
   filled f p w = record {
     config = w.config;
-    storage = put_frame w.storage f (cond (bit15 w.storage p == 1) zeros (read_in r.store w.store (p - w.config.supervisor) (frame w.storage f)));
+    storage = fill_frame w.storage f (cond (bit15 w.storage p == 1) zeros (read_in r.store w.store (p - w.config.supervisor) (frame w.storage f)));
     keys = w.keys;
     records = w.records;
     translator = w.translator;
@@ -142,13 +146,13 @@ module _ {T P S : Type 0} (r : Parts T P S) where
     store = w.store;
   }
 
-  -- Fixed once more: at 1 the frame leaves the policy.
+  -- Fixed once more, up to 255 times: at 1 the frame leaves the policy.
   abbrev pub fixed_in1 : ℕ → World T P S → World T P S
   fixed_in1 f w = record {
     config = w.config;
     storage = w.storage;
     keys = w.keys;
-    records = slice_set w.records f (record { page = page_in w.records f; fixes = fixes_in w.records f + 1 });
+    records = slice_set w.records f (record { page = page_in w.records f; fixes = min 255 (fixes_in w.records f + 1) });
     translator = w.translator;
     policy = cond (fixes_in w.records f == 0) (r.policy.leave w.policy f) w.policy;
     store = w.store;

@@ -1,0 +1,94 @@
+//! What can be seen of a machine from outside, and its end.
+ghost use Rattle.std.specs.Prelude.{◌≡◌, []};
+ghost use Rattle.machine.specs.Machine.{world};
+ghost use Rattle.table.specs.Table.{record_in};
+
+use crate::Machine;
+use frames::Policy;
+use model::shape::FrameRecord;
+use pages::store::PageStore;
+use paging::Own;
+use tables::Controls;
+use translation::Translator;
+
+impl<T: Translator, P: Policy, S: PageStore> Machine<T, P, S> {
+    /// How many frames IPL was given; 0 before IPL.
+    pub fn frames(&self) -> u16
+        ensures { result ≡ (world T.Translator P.Policy S.PageStore self.now []).config.frames }
+    {
+        self.own.state.layout().frames()
+    }
+
+    /// How many of them are the supervisor's; 0 before IPL.
+    pub fn supervisor(&self) -> u16
+        ensures { result ≡ (world T.Translator P.Policy S.PageStore self.now []).config.supervisor }
+    {
+        self.own.state.layout().supervisor()
+    }
+
+    /// How many virtual pages there are; 0 before IPL.
+    pub fn pages(&self) -> u16
+        ensures { result ≡ (world T.Translator P.Policy S.PageStore self.now []).config.pages }
+    {
+        self.own.state.layout().pages()
+    }
+
+    /// The record of a frame.
+    pub fn record(&self, frame: u8) -> FrameRecord
+        ensures { result ≡ record_in (world T.Translator P.Policy S.PageStore self.now []).records frame }
+    {
+        self.own.state.record(frame)
+    }
+
+    /// The 256 storage keys.
+    pub fn keys(&self) -> &[u8]
+        ensures { result.now ≡ (world T.Translator P.Policy S.PageStore self.now []).keys }
+    {
+        &self.own.keys
+    }
+
+    /// Both control words.
+    pub fn controls(&self) -> Controls
+        ensures { result ≡ T.Translator.rules.controls (world T.Translator P.Policy S.PageStore self.now []).translator }
+    {
+        self.own.translator.controls()
+    }
+
+    /// The translator.
+    pub fn translator(&self) -> &T
+        ensures { T.Translator.model result.now ≡ (world T.Translator P.Policy S.PageStore self.now []).translator }
+    {
+        &self.own.translator
+    }
+
+    /// The policy.
+    pub fn policy(&self) -> &P
+        ensures { P.Policy.model result.now ≡ (world T.Translator P.Policy S.PageStore self.now []).policy }
+    {
+        &self.own.policy
+    }
+
+    /// The page store.
+    pub fn page_store(&self) -> &S
+        ensures { S.PageStore.model result.now ≡ (world T.Translator P.Policy S.PageStore self.now []).store }
+    {
+        &self.own.store
+    }
+
+    /// The three parts, of which a machine is made anew.
+    pub fn into_parts(self) -> (T, P, S)
+        ensures translator { result.0 ≡ self.own.translator }
+        ensures policy { result.1 ≡ self.own.policy }
+        ensures store { result.2 ≡ self.own.store }
+    {
+        let Machine { own } = self;
+        let Own {
+            state: _,
+            keys: _,
+            translator,
+            policy,
+            store,
+        } = own;
+        (translator, policy, store)
+    }
+}
