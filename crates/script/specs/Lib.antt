@@ -1,4 +1,5 @@
 pub mod Numbers
 pub mod Words
+pub mod Starts
 pub mod Verbs
 pub mod Commands

@@ -67,9 +67,9 @@ struct Words<'a> {
 }
 
 // Takes in one value of a word that may stand once.
-fn once<T: Drop>(place: &mut Option<T>, value: T) -> Result<(), Wrong> {
+pub(crate) fn once<T: Drop>(verb: Verb, place: &mut Option<T>, value: T) -> Result<(), Wrong> {
     if place.is_some() {
-        return Err(Wrong::Twice);
+        return Err(Wrong::Twice(verb));
     }
     *place = Some(value);
     Ok(())
@@ -85,7 +85,7 @@ impl FromStr for Policy {
         match value {
             "queues" => Ok(Policy::Queues),
             "lru" => Ok(Policy::Lru),
-            _ => Err(Wrong::UnknownWord),
+            _ => Err(Wrong::UnknownWord(Verb::Wire)),
         }
     }
 }
@@ -101,7 +101,7 @@ impl FromStr for Translator {
             "walker" => Ok(Translator::Walker),
             "tlb" => Ok(Translator::Tlb),
             "tlb2" => Ok(Translator::Tlb2),
-            _ => Err(Wrong::UnknownWord),
+            _ => Err(Wrong::UnknownWord(Verb::Wire)),
         }
     }
 }
@@ -116,7 +116,7 @@ impl FromStr for Kind {
         match value {
             "plain" => Ok(Kind::Plain),
             "dataset" => Ok(Kind::DataSet),
-            _ => Err(Wrong::UnknownWord),
+            _ => Err(Wrong::UnknownWord(Verb::Wire)),
         }
     }
 }
@@ -124,14 +124,18 @@ impl FromStr for Kind {
 impl<'a> Words<'a> {
     // Takes in one word of WIRE.
     fn take_in(&mut self, word: &'a str) -> Result<(), Wrong> {
-        let (name, value) = word.split_once('=').ok_or(Wrong::UnknownWord)?;
+        let (name, value) = word.split_once('=').ok_or(Wrong::UnknownWord(Verb::Wire))?;
         match name {
-            "policy" => once(&mut self.policy, value.parse()?),
-            "translator" => once(&mut self.translator, value.parse()?),
-            "store" => once(&mut self.kind, value.parse()?),
-            "slots" => once(&mut self.slots, limited(Verb::Wire, value, MOST_WIRED)?),
-            "file" => once(&mut self.file, value),
-            _ => Err(Wrong::UnknownWord),
+            "policy" => once(Verb::Wire, &mut self.policy, value.parse()?),
+            "translator" => once(Verb::Wire, &mut self.translator, value.parse()?),
+            "store" => once(Verb::Wire, &mut self.kind, value.parse()?),
+            "slots" => once(
+                Verb::Wire,
+                &mut self.slots,
+                limited(Verb::Wire, value, MOST_WIRED)?,
+            ),
+            "file" => once(Verb::Wire, &mut self.file, value),
+            _ => Err(Wrong::UnknownWord(Verb::Wire)),
         }
     }
 
