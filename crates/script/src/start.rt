@@ -1,5 +1,8 @@
 //! What IPL starts a machine with, and the words of IPL that say it.
-ghost use Rattle.std.specs.Prelude.{IfOk};
+ghost use Rattle.std.specs.Prelude.{IfOk, OnOk, codes};
+ghost use Rattle.std.specs.List.{AllZip};
+ghost use Rattle.script.specs.Numbers.{Writes};
+ghost use Rattle.script.specs.Said.{Appends, OnceOrZero, Takes, value_for, values};
 ghost use Rattle.script.specs.Starts.{WritesPartition};
 
 use crate::number::{byte_of, word_of};
@@ -42,7 +45,12 @@ fn partition(value: &str) -> Result<Partition, Wrong>
 
 impl Words {
     // Takes in one word of IPL.
-    fn take_in(&mut self, word: &str) -> Result<(), Wrong> {
+    fn take_in(&mut self, word: &str) -> Result<(), Wrong>
+        ensures frames { OnOk result (Takes Writes (value_for (codes "frames") word.now) self.old.frames self.new.frames) }
+        ensures supervisor { OnOk result (Takes Writes (value_for (codes "supervisor") word.now) self.old.supervisor self.new.supervisor) }
+        ensures pages { OnOk result (Takes Writes (value_for (codes "pages") word.now) self.old.pages self.new.pages) }
+        ensures partitions { OnOk result (Appends WritesPartition (value_for (codes "partition") word.now) self.old.partitions.items self.new.partitions.items) }
+    {
         let (name, value) = word.split_once('=').ok_or(Wrong::UnknownWord(Verb::Ipl))?;
         match name {
             "frames" => once(Verb::Ipl, &mut self.frames, word_of(Verb::Ipl, value)?),
@@ -56,7 +64,12 @@ impl Words {
 
 impl Start {
     /// The start that the words of IPL say. A number that none of them says is 0.
-    pub fn of(heap: Global, words: &[&str]) -> Result<Start, Wrong> {
+    pub fn of(heap: Global, words: &[&str]) -> Result<Start, Wrong>
+        ensures frames { IfOk result (λ s. OnceOrZero Writes (values (codes "frames") words.now) s.frames) }
+        ensures supervisor { IfOk result (λ s. OnceOrZero Writes (values (codes "supervisor") words.now) s.supervisor) }
+        ensures pages { IfOk result (λ s. OnceOrZero Writes (values (codes "pages") words.now) s.pages) }
+        ensures partitions { IfOk result (λ s. AllZip WritesPartition (values (codes "partition") words.now) s.partitions.items) }
+    {
         let mut met = Words {
             frames: None,
             supervisor: None,

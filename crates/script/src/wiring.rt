@@ -1,4 +1,7 @@
 //! What a board is wired from, and the words of WIRE that say it.
+ghost use Rattle.std.specs.Prelude.{◌≡◌, IfOk, OnOk, codes};
+ghost use Rattle.script.specs.Said.{Once, Takes, value_for, values};
+ghost use Rattle.script.specs.Wirings.{Chosen, IsHeld, SaysSource, Spells, WritesSlots};
 ghost use Rattle.script.specs.Words.{IsUnknown, kind_word, policy_word, Reads, translator_word};
 
 use crate::number::limited;
@@ -67,7 +70,9 @@ struct Words<'a> {
 }
 
 // Takes in one value of a word that may stand once.
-pub(crate) fn once<T: Drop>(verb: Verb, place: &mut Option<T>, value: T) -> Result<(), Wrong> {
+pub(crate) fn once<T: Drop>(verb: Verb, place: &mut Option<T>, value: T) -> Result<(), Wrong>
+    ensures { OnOk result ((place.old ≡ None) × (place.new ≡ Some value)) }
+{
     if place.is_some() {
         return Err(Wrong::Twice(verb));
     }
@@ -123,7 +128,13 @@ impl FromStr for Kind {
 
 impl<'a> Words<'a> {
     // Takes in one word of WIRE.
-    fn take_in(&mut self, word: &'a str) -> Result<(), Wrong> {
+    fn take_in(&mut self, word: &'a str) -> Result<(), Wrong>
+        ensures policy { OnOk result (Takes (Spells policy_word) (value_for (codes "policy") word.now) self.old.policy self.new.policy) }
+        ensures translator { OnOk result (Takes (Spells translator_word) (value_for (codes "translator") word.now) self.old.translator self.new.translator) }
+        ensures kind { OnOk result (Takes (Spells kind_word) (value_for (codes "store") word.now) self.old.kind self.new.kind) }
+        ensures slots { OnOk result (Takes WritesSlots (value_for (codes "slots") word.now) self.old.slots self.new.slots) }
+        ensures file { OnOk result (Takes IsHeld (value_for (codes "file") word.now) self.old.file self.new.file) }
+    {
         let (name, value) = word.split_once('=').ok_or(Wrong::UnknownWord(Verb::Wire))?;
         match name {
             "policy" => once(Verb::Wire, &mut self.policy, value.parse()?),
@@ -140,7 +151,9 @@ impl<'a> Words<'a> {
     }
 
     // Where the pages come from: slots or a file, and a file for a data set only.
-    fn source(&self, heap: Global) -> Result<Source, Wrong> {
+    fn source(&self, heap: Global) -> Result<Source, Wrong>
+        ensures { IfOk result (Chosen self.now.kind self.now.slots self.now.file) }
+    {
         match (self.kind, self.slots, self.file) {
             (Some(Kind::Plain), Some(n), None) => Ok(Source::Plain(n)),
             (Some(Kind::DataSet), Some(n), None) => Ok(Source::Blank(n)),
@@ -154,7 +167,11 @@ impl<'a> Words<'a> {
 
 impl Wiring {
     /// The board that the words of WIRE say.
-    pub fn of(heap: Global, words: &[&str]) -> Result<Wiring, Wrong> {
+    pub fn of(heap: Global, words: &[&str]) -> Result<Wiring, Wrong>
+        ensures policy { IfOk result (λ w. Once (Spells policy_word) (values (codes "policy") words.now) w.policy) }
+        ensures translator { IfOk result (λ w. Once (Spells translator_word) (values (codes "translator") words.now) w.translator) }
+        ensures source { IfOk result (λ w. SaysSource (values (codes "store") words.now) (values (codes "slots") words.now) (values (codes "file") words.now) w.source) }
+    {
         let mut met = Words::default();
         for word in words {
             met.take_in(word)?;
