@@ -3,7 +3,8 @@ ghost use Rattle.std.specs.Prelude.{◌≡◌, ℕ, ◌<◌, ◌≤◌, length, 
 ghost use Rattle.script.specs.Commands.{verb_of};
 ghost use Rattle.script.specs.Numbers.{Writes};
 
-use crate::number::limited;
+use crate::number::{byte_of, limited, word_of};
+use crate::start::Start;
 use crate::verb::Verb;
 use crate::wiring::Wiring;
 use crate::wrong::Wrong;
@@ -27,6 +28,19 @@ pub enum Command {
     Walk(u32, Option<Controls>),
     Controls,
     Slot(u32),
+    Ipl(Start),
+    Load(u32, u8),
+    Store(u32, u8, u8),
+    Fix(u32),
+    Free(u32),
+    Purge,
+    Settle,
+    Entry(u32),
+    Keys(u32, u32),
+    Frames,
+    Queues,
+    Pairs,
+    State,
 }
 
 /// The part of a line in front of its comment.
@@ -37,21 +51,6 @@ pub fn uncommented(line: &[u8]) -> &[u8]
 {
     let end = line.iter().position(|c| *c == b'#').unwrap_or(line.len());
     &line[..end]
-}
-
-// A number of 32 bits among the words behind a verb. (One function for both widths would want a trait of its own, by which a
-// clause says what number a `u32` or a `u8` is: that is no plainer than two lines.)
-fn word_of(verb: Verb, word: &str) -> Result<u32, Wrong>
-    ensures { IfOk result (Writes word.now) }
-{
-    limited(verb, word, u32::MAX)
-}
-
-// A number of 8 bits among the words behind a verb.
-fn byte_of(verb: Verb, word: &str) -> Result<u8, Wrong>
-    ensures { IfOk result (Writes word.now) }
-{
-    Ok(limited(verb, word, 255)? as u8)
 }
 
 // ALTER address byte byte ..
@@ -104,6 +103,33 @@ fn display(address: &str, count: &str) -> Result<Command, Wrong>
     ))
 }
 
+// LOAD address key
+fn load(address: &str, key: &str) -> Result<Command, Wrong>
+    ensures called { IfOk result (λ c. verb_of c ≡ Verb.Load) }
+    ensures says { IfOk result (λ c. (a : ℕ) × (k : ℕ) × (c ≡ Command.Load a k) × Writes address.now a × Writes key.now k) }
+{
+    Ok(Command::Load(word_of(Verb::Load, address)?, byte_of(Verb::Load, key)?))
+}
+
+// STORE address key byte
+fn store(address: &str, key: &str, byte: &str) -> Result<Command, Wrong>
+    ensures called { IfOk result (λ c. verb_of c ≡ Verb.Store) }
+    ensures says { IfOk result (λ c. (a : ℕ) × (k : ℕ) × (b : ℕ) × (c ≡ Command.Store a k b) × Writes address.now a × Writes key.now k × Writes byte.now b) }
+{
+    let address = word_of(Verb::Store, address)?;
+    let key = byte_of(Verb::Store, key)?;
+    let byte = byte_of(Verb::Store, byte)?;
+    Ok(Command::Store(address, key, byte))
+}
+
+// KEYS first count
+fn keys(first: &str, count: &str) -> Result<Command, Wrong>
+    ensures called { IfOk result (λ c. verb_of c ≡ Verb.Keys) }
+    ensures says { IfOk result (λ c. (f : ℕ) × (n : ℕ) × (c ≡ Command.Keys f n) × Writes first.now f × Writes count.now n) }
+{
+    Ok(Command::Keys(word_of(Verb::Keys, first)?, word_of(Verb::Keys, count)?))
+}
+
 impl Command {
     /// What the command is called.
     pub fn verb(&self) -> Verb
@@ -121,6 +147,19 @@ impl Command {
             Command::Walk(_, _) => Verb::Walk,
             Command::Controls => Verb::Controls,
             Command::Slot(_) => Verb::Slot,
+            Command::Ipl(_) => Verb::Ipl,
+            Command::Load(_, _) => Verb::Load,
+            Command::Store(_, _, _) => Verb::Store,
+            Command::Fix(_) => Verb::Fix,
+            Command::Free(_) => Verb::Free,
+            Command::Purge => Verb::Purge,
+            Command::Settle => Verb::Settle,
+            Command::Entry(_) => Verb::Entry,
+            Command::Keys(_, _) => Verb::Keys,
+            Command::Frames => Verb::Frames,
+            Command::Queues => Verb::Queues,
+            Command::Pairs => Verb::Pairs,
+            Command::State => Verb::State,
         }
     }
 
@@ -140,6 +179,19 @@ impl Command {
             (Verb::Walk, _) => walk(words),
             (Verb::Controls, []) => Ok(Command::Controls),
             (Verb::Slot, [slot]) => Ok(Command::Slot(word_of(verb, slot)?)),
+            (Verb::Ipl, _) => Ok(Command::Ipl(Start::of(heap, words)?)),
+            (Verb::Load, [address, key]) => load(address, key),
+            (Verb::Store, [address, key, byte]) => store(address, key, byte),
+            (Verb::Fix, [page]) => Ok(Command::Fix(word_of(verb, page)?)),
+            (Verb::Free, [page]) => Ok(Command::Free(word_of(verb, page)?)),
+            (Verb::Purge, []) => Ok(Command::Purge),
+            (Verb::Settle, []) => Ok(Command::Settle),
+            (Verb::Entry, [page]) => Ok(Command::Entry(word_of(verb, page)?)),
+            (Verb::Keys, [first, count]) => keys(first, count),
+            (Verb::Frames, []) => Ok(Command::Frames),
+            (Verb::Queues, []) => Ok(Command::Queues),
+            (Verb::Pairs, []) => Ok(Command::Pairs),
+            (Verb::State, []) => Ok(Command::State),
             _ => Err(Wrong::Arguments(verb)),
         }
     }
