@@ -5,5 +5,8 @@
 //! whatever it holds; its contract has the law over disturbed runs.
 #![tactic(auto)]
 
+pub mod disturbed;
 pub mod handed;
+pub mod start;
 pub mod stopped;
+pub mod whole;
