@@ -29,7 +29,7 @@ impl ShowPairs for Walker {
         false
     }
 
-    fn layers(&self, heap: Global, start: &str) -> Result<String, AllocError> {
+    fn layers(&self, heap: Global, _start: &str) -> Result<String, AllocError> {
         Ok(String::new(heap))
     }
 }

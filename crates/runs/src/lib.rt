@@ -4,7 +4,9 @@
 //! flat machine that has nothing but bytes and fix counts. `work_disturbed` hands each call a main storage of its own,
 //! whatever it holds; its contract has the law over disturbed runs.
 #![tactic(auto)]
+
 pub mod disturbed;
 pub mod handed;
+pub mod start;
 pub mod stopped;
 pub mod whole;

@@ -1,15 +1,16 @@
 //! A run in which main storage passes from IPL and between the calls unaltered.
-ghost use Rattle.std.specs.Prelude.{◌≡◌, ◌+◌, ◌≤◌, ◌++◌, length, vec_len, vec_capacity};
+ghost use Rattle.std.specs.Prelude.{◌≡◌, ◌+◌, ◌≤◌, ◌++◌, length, OnErr, vec_len, vec_capacity};
+ghost use Rattle.layout.specs.Config.{config_with};
 ghost use Rattle.machine.specs.Machine.{Does, rules, world};
 ghost use Rattle.model.specs.Law.{LawOf};
 ghost use Rattle.model.specs.Steps.{byte_answer, done_answer, worked};
 ghost use Rattle.runs.specs.Whole.{Ran, Run};
 
+use crate::start::Start;
 use crate::stopped::Stopped;
 use frames::Policy;
 use machine::Machine;
 use model::calls::{Answer, Call, Refusal, Reply};
-use model::shape::Partition;
 use pages::store::PageStore;
 use std::alloc::Global;
 use translation::Translator;
@@ -34,7 +35,8 @@ pub fn make<T: Translator, P: Policy, S: PageStore>(
     storage: &mut [u8],
     call: Call,
 ) -> Answer
-    ensures { Does T.Translator P.Policy S.PageStore (λ q w. worked q call w) result (world T.Translator P.Policy S.PageStore machine.old storage.old) (world T.Translator P.Policy S.PageStore machine.new storage.new) }
+    ensures rule { Does T.Translator P.Policy S.PageStore (λ q w. worked q call w) result (world T.Translator P.Policy S.PageStore machine.old storage.old) (world T.Translator P.Policy S.PageStore machine.new storage.new) }
+    ensures refused { OnErr result (world T.Translator P.Policy S.PageStore machine.new storage.new ≡ world T.Translator P.Policy S.PageStore machine.old storage.old) }
 {
     match call {
         Call::Load { address, key } => read(machine.load(storage, address, key)),
@@ -67,20 +69,17 @@ fn make_all<T: Translator, P: Policy, S: PageStore>(
 pub fn work<T: Translator, P: Policy, S: PageStore>(
     machine: &mut Machine<T, P, S>,
     storage: &mut [u8],
-    frames: u32,
-    supervisor: u32,
-    pages: u32,
-    partitions: &[Partition],
+    start: Start,
     calls: &[Call],
     heap: Global,
 ) -> Result<Vec<Answer>, Stopped>
-    ensures run { Ran (rules T.Translator P.Policy S.PageStore) (record { frames = frames; supervisor = supervisor; pages = pages; partitions = partitions.now }) calls.now (world T.Translator P.Policy S.PageStore machine.old storage.old) (world T.Translator P.Policy S.PageStore machine.new storage.new) result }
+    ensures run { Ran (rules T.Translator P.Policy S.PageStore) (config_with start.entry.sizes start.entry.partitions.now) calls.now (world T.Translator P.Policy S.PageStore machine.old storage.old) (world T.Translator P.Policy S.PageStore machine.new storage.new) result }
     ensures law { LawOf (rules T.Translator P.Policy S.PageStore) }
 {
     let Ok(mut answers) = Vec::with_capacity(heap, calls.len()) else {
         return Err(Stopped::Memory);
     };
-    if let Err(why) = machine.ipl(storage, frames, supervisor, pages, partitions) {
+    if let Err(why) = machine.ipl(storage, start.sizes, start.partitions) {
         return Err(Stopped::Refused(why));
     }
     make_all(machine, storage, calls, &mut answers);

@@ -1,16 +1,17 @@
 //! A run in which each call is handed a main storage of its own.
 ghost use Rattle.std.specs.Prelude.{◌≡◌, ◌+◌, ◌≤◌, [], length, vec_len, vec_capacity};
+ghost use Rattle.layout.specs.Config.{config_with};
 ghost use Rattle.machine.specs.Machine.{rules, world};
 ghost use Rattle.model.specs.Law.{SteadyOf};
 ghost use Rattle.runs.specs.Disturbed.{Moved, RanDisturbed, handing, storages_of};
 
 use crate::handed::Handed;
+use crate::start::Start;
 use crate::stopped::Stopped;
 use crate::whole::make;
 use frames::Policy;
 use machine::Machine;
 use model::calls::Answer;
-use model::shape::Partition;
 use pages::store::PageStore;
 use std::alloc::Global;
 use translation::Translator;
@@ -36,20 +37,17 @@ fn hand_all<T: Translator, P: Policy, S: PageStore>(
 pub fn work_disturbed<T: Translator, P: Policy, S: PageStore>(
     machine: &mut Machine<T, P, S>,
     storage: &mut [u8],
-    frames: u32,
-    supervisor: u32,
-    pages: u32,
-    partitions: &[Partition],
+    start: Start,
     calls: &mut [Handed],
     heap: Global,
 ) -> Result<Vec<Answer>, Stopped>
-    ensures run { RanDisturbed (rules T.Translator P.Policy S.PageStore) (record { frames = frames; supervisor = supervisor; pages = pages; partitions = partitions.now }) calls.old (world T.Translator P.Policy S.PageStore machine.old storage.old) (world T.Translator P.Policy S.PageStore machine.new) storage.new calls.new result }
+    ensures run { RanDisturbed (rules T.Translator P.Policy S.PageStore) (config_with start.entry.sizes start.entry.partitions.now) calls.old (world T.Translator P.Policy S.PageStore machine.old storage.old) (world T.Translator P.Policy S.PageStore machine.new) storage.new calls.new result }
     ensures law { SteadyOf (rules T.Translator P.Policy S.PageStore) }
 {
     let Ok(mut answers) = Vec::with_capacity(heap, calls.len()) else {
         return Err(Stopped::Memory);
     };
-    if let Err(why) = machine.ipl(storage, frames, supervisor, pages, partitions) {
+    if let Err(why) = machine.ipl(storage, start.sizes, start.partitions) {
         return Err(Stopped::Refused(why));
     }
     hand_all(machine, calls, &mut answers);

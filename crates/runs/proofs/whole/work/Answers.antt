@@ -1,0 +1,35 @@
+use Rattle.std.proofs.Common.{refl}
+use Rattle.layout.specs.Config.{config_with}
+use Rattle.machine.specs.Machine.{rules, world}
+use Rattle.model.proofs.Runs.{law_of}
+use Rattle.model.specs.World.{LawfulParts}
+use Rattle.runs.proofs.Playing.{lawfully, not_begun}
+use Rattle.runs.proofs.whole.work.Goals as goal
+
+pub returns-in_default : goal.returns-in_default
+returns-in_default g c =
+    let r = rules g.T.Translator g.P.Policy g.S.PageStore in
+    let law : LawfulParts r = record { translator = g.met.T.Translator.lawful; policy = g.met.P.Policy.lawful; store = g.met.S.PageStore.lawful } in
+    record { run = refl; law = law_of r law }
+
+pub returns-in-Err : goal.returns-in-Err
+returns-in-Err g c =
+    let r = rules g.T.Translator g.P.Policy g.S.PageStore in
+    let law : LawfulParts r = record { translator = g.met.T.Translator.lawful; policy = g.met.P.Policy.lawful; store = g.met.S.PageStore.lawful } in
+    let found = world g.T.Translator g.P.Policy g.S.PageStore c.args.machine.now c.args.storage.now in
+    let given = config_with c.args.start.sizes c.args.start.partitions.now in
+    record { run = (not_begun r given found _ c.in-Err.why c.in-Err.ensures.rule, c.in-Err.ensures.refused); law = law_of r law }
+
+pub returns : goal.returns
+returns g c =
+    let r = rules g.T.Translator g.P.Policy g.S.PageStore in
+    let law : LawfulParts r = record { translator = g.met.T.Translator.lawful; policy = g.met.P.Policy.lawful; store = g.met.S.PageStore.lawful } in
+    let own = c.args.machine.now.own in
+    let found = world g.T.Translator g.P.Policy g.S.PageStore c.args.machine.now c.args.storage.now in
+    let given = config_with c.args.start.sizes c.args.start.partitions.now in
+    record {
+      run = lawfully r law given c.args.calls.now found _ _
+          (record { translator = g.met.T.Translator.valid own.translator; policy = g.met.P.Policy.valid own.policy; store = g.met.S.PageStore.valid own.store })
+          _ _ c.in_default-ipl.ensures.rule c.in-Ok.ensures.items c.make_all.ensures;
+      law = law_of r law;
+    }

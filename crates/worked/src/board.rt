@@ -1,0 +1,104 @@
+//! The worked machine, its main storage, and what is seen of both.
+ghost use Rattle.std.specs.Prelude.{◌≡◌, ◌==◌};
+ghost use Rattle.std.specs.List.{list_all};
+ghost use Rattle.model.specs.Layout.{entry_at};
+ghost use Rattle.storage.specs.Bytes.{half, word};
+
+use crate::stated::{FRAMES, Row, SHOWN, SLOTS};
+use dataset::data_set::DataSet;
+use layout::entries::entry;
+use machine::Machine;
+use model::calls::{Answer, Call};
+use pages::store::PageStore;
+use queues::{FiveQueues, Queue};
+use runs::start::Start;
+use runs::whole::make;
+use std::alloc::{AllocError, Global};
+use storage::{Number, PAGE};
+use tables::{Controls, Refusal, walk};
+use translation::{Tlb, Walker};
+
+/// A machine of five queues, a TLB over the walker and a page data set, and its main storage.
+#[derive(Drop)]
+pub struct Board {
+    pub machine: Machine<Tlb<Walker>, FiveQueues, DataSet>,
+    pub storage: Vec<u8>,
+}
+
+impl Board {
+    /// Before IPL, with blank slots and zeros in main storage.
+    pub fn new(heap: Global) -> anyhow::Result<Board> {
+        let slots = DataSet::blank(heap, SLOTS)?;
+        let storage = vec![in heap; 0u8; FRAMES * PAGE]?;
+        Ok(Board {
+            machine: Machine::new(Tlb::over(Walker::new()), FiveQueues::new(), slots),
+            storage,
+        })
+    }
+
+    /// IPL: whether it is answered.
+    pub fn ipl(&mut self, start: Start) -> bool {
+        self.machine
+            .ipl(&mut self.storage, start.sizes, start.partitions)
+            .is_ok()
+    }
+
+    /// Makes a call.
+    pub fn make(&mut self, call: Call) -> Answer {
+        make(&mut self.machine, &mut self.storage, call)
+    }
+
+    /// Whether the words at some places of main storage are these.
+    pub fn has_words(&self, words: &[(usize, u32)]) -> bool
+        ensures { result ≡ list_all (λ w. word self.now.storage.items w.0 == w.1) words.now }
+    {
+        words
+            .iter()
+            .all(|&(at, value)| u32::read(&self.storage, at) == value)
+    }
+
+    /// Whether the entries of some pages are these.
+    pub fn has_entries(&self, entries: &[(u16, u16)]) -> bool
+        ensures { result ≡ list_all (λ e. half self.now.storage.items (entry_at e.0) == e.1) entries.now }
+    {
+        entries
+            .iter()
+            .all(|&(page, value)| entry(&self.storage, page) == value)
+    }
+
+    /// The walk of an address with other control words than the machine's.
+    pub fn walk_with(&self, controls: Controls, address: u32) -> Result<usize, Refusal> {
+        walk(&self.storage, controls, address)
+    }
+
+    // Whether a queue holds these frames, the head first.
+    fn has_queue(&self, heap: Global, queue: Queue, frames: &[u8]) -> Result<bool, AllocError> {
+        Ok(self.machine.policy().frames(heap, queue)?.as_slice() == frames)
+    }
+
+    // Whether a frame has this page, and this storage key.
+    fn has_frame(&self, frame: u8, page: u16, key: u8) -> bool {
+        self.machine.record(frame).page == page
+            && storage::byte(self.machine.keys(), frame as usize) == key
+    }
+
+    /// Whether the pageable frames, their storage keys and the queues are as in a row.
+    pub fn is_at(&self, heap: Global, row: &Row) -> Result<bool, AllocError> {
+        let mut same = true;
+        for (i, frame) in SHOWN.iter().enumerate() {
+            same &= self.has_frame(*frame, row.pages[i], row.keys[i]);
+        }
+        for (i, queue) in Queue::ALL.iter().enumerate() {
+            same &= self.has_queue(heap, *queue, row.queues[i])?;
+        }
+        Ok(same)
+    }
+
+    /// Whether a slot holds a byte, and zeros behind it.
+    pub fn has_slot(&self, slot: u32, first: u8) -> bool {
+        let mut page = [0xFF; PAGE];
+        self.machine.page_store().read(slot, &mut page).is_ok()
+            && page[0] == first
+            && page[1..].iter().all(|&byte| byte == 0)
+    }
+}
