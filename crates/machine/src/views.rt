@@ -1,5 +1,7 @@
 //! What can be seen of a machine from outside, and its end.
-ghost use Rattle.std.specs.Prelude.{◌≡◌, []};
+ghost use Rattle.std.specs.Prelude.{◌≡◌, ◌≤◌, []};
+ghost use Rattle.std.specs.Borrow.{sem};
+ghost use Rattle.machine.specs.Lending.{LendsStore};
 ghost use Rattle.machine.specs.Machine.{world};
 ghost use Rattle.table.specs.Table.{record_in};
 
@@ -14,7 +16,8 @@ use translation::Translator;
 impl<T: Translator, P: Policy, S: PageStore> Machine<T, P, S> {
     /// How many frames IPL was given; 0 before IPL.
     pub fn frames(&self) -> u16
-        ensures { result ≡ (world T.Translator P.Policy S.PageStore self.now []).config.frames }
+        ensures value { result ≡ (world T.Translator P.Policy S.PageStore self.now []).config.frames }
+        ensures few { result ≤ 256 }
     {
         self.own.state.layout().frames()
     }
@@ -56,23 +59,36 @@ impl<T: Translator, P: Policy, S: PageStore> Machine<T, P, S> {
 
     /// The translator.
     pub fn translator(&self) -> &T
-        ensures { T.Translator.model result.now ≡ (world T.Translator P.Policy S.PageStore self.now []).translator }
+        ensures value { result.now ≡ self.now.own.translator }
+        ensures model { T.Translator.model result.now ≡ (world T.Translator P.Policy S.PageStore self.now []).translator }
     {
         &self.own.translator
     }
 
     /// The policy.
     pub fn policy(&self) -> &P
-        ensures { P.Policy.model result.now ≡ (world T.Translator P.Policy S.PageStore self.now []).policy }
+        ensures value { result.now ≡ self.now.own.policy }
+        ensures model { P.Policy.model result.now ≡ (world T.Translator P.Policy S.PageStore self.now []).policy }
     {
         &self.own.policy
     }
 
     /// The page store.
     pub fn page_store(&self) -> &S
-        ensures { S.PageStore.model result.now ≡ (world T.Translator P.Policy S.PageStore self.now []).store }
+        ensures value { result.now ≡ self.now.own.store }
+        ensures model { S.PageStore.model result.now ≡ (world T.Translator P.Policy S.PageStore self.now []).store }
     {
         &self.own.store
+    }
+
+    /// The page store, lent to be changed. A store is changed so before the machine starts: the laws over whole runs speak of
+    /// machines whose store no one else changes.
+    pub fn page_store_mut(&mut self) -> &mut S
+        ensures* follows { sem 𝓛 (LendsStore T.row P.row S.row self.entry result) }
+        ensures value { result.now ≡ self.old.own.store }
+    {
+        let own = &mut self.own;
+        &mut own.store
     }
 
     /// The three parts, of which a machine is made anew.
