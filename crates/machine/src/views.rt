@@ -1,7 +1,8 @@
 //! What can be seen of a machine from outside, and its end.
-ghost use Rattle.std.specs.Prelude.{◌≡◌, ◌≤◌, []};
+ghost use Rattle.std.specs.Prelude.{◌≡◌, ◌≤◌, [], if◌then◌else◌, Some, None, ◌==◌};
 ghost use Rattle.std.specs.Borrow.{sem};
-ghost use Rattle.machine.specs.Lending.{LendsStore};
+ghost use Rattle.std.specs.Option.{option_map};
+ghost use Rattle.machine.specs.Lending.{LendsStore, LendsStoreIf};
 ghost use Rattle.machine.specs.Machine.{world};
 ghost use Rattle.table.specs.Table.{record_in};
 
@@ -81,14 +82,25 @@ impl<T: Translator, P: Policy, S: PageStore> Machine<T, P, S> {
         &self.own.store
     }
 
-    /// The page store, lent to be changed. A store is changed so before the machine starts: the laws over whole runs speak of
-    /// machines whose store no one else changes.
-    pub fn page_store_mut(&mut self) -> &mut S
+    // The page store, lent.
+    fn lend_store(&mut self) -> &mut S
         ensures* follows { sem 𝓛 (LendsStore T.row P.row S.row self.entry result) }
         ensures value { result.now ≡ self.old.own.store }
     {
         let own = &mut self.own;
         &mut own.store
+    }
+
+    /// The page store, lent to be changed before the first answered IPL; none after it, since a machine's page store is its
+    /// own then.
+    pub fn page_store_mut(&mut self) -> Option<&mut S>
+        ensures* follows { sem 𝓛 (LendsStoreIf T.row P.row S.row self.entry result) }
+        ensures value { option_map (λ s. s.now) result ≡ (if self.old.own.state.config.frames == 0 then Some self.old.own.store else None) }
+    {
+        if self.frames() > 0 {
+            return None;
+        }
+        Some(self.lend_store())
     }
 
     /// The three parts, of which a machine is made anew.
