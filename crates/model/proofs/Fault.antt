@@ -190,6 +190,13 @@ module _ {P : Type 0} (r : policies.Rules P) (law : policies.Lawful r) (c : Conf
         ];
       })
 
+  -- there is one, and it is the frame chosen
+  pub handed_some : (o : Option ℕ) (left : P) → policies.Picks r m left o → o ≡ Some (chosen c.supervisor c.frames o)
+  handed_some None left picks = let k = some_held in let z = picks.0 k.0 in let e = k.1 in absurd (omega arith)
+  handed_some (Some f) left picks =
+      let fp = (one_held f picks.0).0 in
+      sym (ap Some (cond-true _ f c.supervisor (and_from _ _ (le-leb _ _ fp.0) (lt-ltb _ _ fp.1))))
+
 -- The whole fault.
 pub record Brought {T P S : Type 0} (r : Parts T P S) (p : ℕ) (w : World T P S) (f : ℕ) (next : World T P S) : Type 0 where
   pub consistent : Consistent r next

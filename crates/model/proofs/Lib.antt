@@ -13,3 +13,4 @@ pub mod Answered
 pub mod Start
 pub mod Runs
 pub mod Tested
+pub mod Certainly

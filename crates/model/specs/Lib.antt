@@ -5,3 +5,4 @@ pub mod Steps
 pub mod Ipl
 pub mod Flat
 pub mod Law
+pub mod Certain

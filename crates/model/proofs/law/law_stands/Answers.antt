@@ -1,4 +1,5 @@
 use Rattle.model.specs.World.{LawfulParts, parts_of}
+use Rattle.model.proofs.Certainly.{certain_of}
 use Rattle.model.proofs.Runs.{law_of, steady_of}
 use Rattle.model.proofs.Tested.{refused_of, tables_of, test_of}
 use Rattle.model.proofs.law.law_stands.Goals as goal
@@ -7,4 +8,4 @@ pub returns : goal.returns
 returns g c =
     let r = parts_of g.T.Translator.rules g.P.Policy.rules g.S.PageStore.rules in
     let lawful : LawfulParts r = record { translator = g.met.T.Translator.lawful; policy = g.met.P.Policy.lawful; store = g.met.S.PageStore.lawful } in
-    record { law = law_of r lawful; tables = tables_of; refused = refused_of r; test = test_of r; steady = steady_of r lawful }
+    record { law = law_of r lawful; tables = tables_of; refused = refused_of r; test = test_of r; certain = certain_of r lawful; steady = steady_of r lawful }
