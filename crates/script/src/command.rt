@@ -1,6 +1,6 @@
 //! Lines and the commands that they write.
 ghost use Rattle.std.specs.Prelude.{◌≡◌, ℕ, ◌<◌, ◌≤◌, length, take, IfOk, ◌≢◌, slice_index};
-ghost use Rattle.script.specs.Commands.{verb_of};
+ghost use Rattle.script.specs.Commands.{Says, verb_of};
 ghost use Rattle.script.specs.Numbers.{Writes};
 
 use crate::number::{byte_of, limited, word_of};
@@ -55,7 +55,8 @@ pub fn uncommented(line: &[u8]) -> &[u8]
 
 // ALTER address byte byte ..
 fn alter(heap: Global, words: &[&str]) -> Result<Command, Wrong>
-    ensures { IfOk result (λ c. verb_of c ≡ Verb.Alter) }
+    ensures called { IfOk result (λ c. verb_of c ≡ Verb.Alter) }
+    ensures says { IfOk result (Says words.now) }
 {
     let [address, _, ..] = words else {
         return Err(Wrong::Arguments(Verb::Alter));
@@ -68,18 +69,25 @@ fn alter(heap: Global, words: &[&str]) -> Result<Command, Wrong>
     Ok(Command::Alter(address, bytes))
 }
 
+// WALK address cr0 cr1
+fn walk_by(address: &str, cr0: &str, cr1: &str) -> Result<Command, Wrong>
+    ensures called { IfOk result (λ c. verb_of c ≡ Verb.Walk) }
+    ensures says { IfOk result (λ c. (a : ℕ) × (x : ℕ) × (y : ℕ) × (c ≡ Command.Walk a (Some (record { cr0 = x; cr1 = y }))) × Writes address.now a × Writes cr0.now x × Writes cr1.now y) }
+{
+    let address = word_of(Verb::Walk, address)?;
+    let cr0 = word_of(Verb::Walk, cr0)?;
+    let cr1 = word_of(Verb::Walk, cr1)?;
+    Ok(Command::Walk(address, Some(Controls { cr0, cr1 })))
+}
+
 // WALK address, WALK address cr0 cr1
 fn walk(words: &[&str]) -> Result<Command, Wrong>
-    ensures { IfOk result (λ c. verb_of c ≡ Verb.Walk) }
+    ensures called { IfOk result (λ c. verb_of c ≡ Verb.Walk) }
+    ensures says { IfOk result (Says words.now) }
 {
     match words {
         [address] => Ok(Command::Walk(word_of(Verb::Walk, address)?, None)),
-        [address, cr0, cr1] => {
-            let address = word_of(Verb::Walk, address)?;
-            let cr0 = word_of(Verb::Walk, cr0)?;
-            let cr1 = word_of(Verb::Walk, cr1)?;
-            Ok(Command::Walk(address, Some(Controls { cr0, cr1 })))
-        }
+        [address, cr0, cr1] => walk_by(address, cr0, cr1),
         _ => Err(Wrong::Arguments(Verb::Walk)),
     }
 }
@@ -165,7 +173,8 @@ impl Command {
 
     /// The command of a verb and the words behind it.
     pub fn of(heap: Global, verb: Verb, words: &[&str]) -> Result<Command, Wrong>
-        ensures { IfOk result (λ c. verb_of c ≡ verb) }
+        ensures called { IfOk result (λ c. verb_of c ≡ verb) }
+        ensures says { IfOk result (Says words.now) }
     {
         match (verb, words) {
             (Verb::Help, []) => Ok(Command::Help),
