@@ -1,6 +1,7 @@
 //! Lines and the commands that they write.
-ghost use Rattle.std.specs.Prelude.{◌≡◌, ℕ, ◌<◌, ◌≤◌, length, take, IfOk, ◌≢◌, slice_index};
+ghost use Rattle.std.specs.Prelude.{◌≡◌, ℕ, IfOk};
 ghost use Rattle.script.specs.Commands.{Says, verb_of};
+ghost use Rattle.script.specs.Lines.{IsUncommented, Parses};
 ghost use Rattle.script.specs.Numbers.{Writes};
 
 use crate::number::{byte_of, limited, word_of};
@@ -45,9 +46,7 @@ pub enum Command {
 
 /// The part of a line in front of its comment.
 pub fn uncommented(line: &[u8]) -> &[u8]
-    ensures front { result.now ≡ take (length result.now) line.now }
-    ensures clear { (k : ℕ) → k < length result.now → slice_index line.now k ≢ 35 }
-    ensures stops { length result.now < length line.now → slice_index line.now (length result.now) ≡ 35 }
+    ensures { IsUncommented line.now result.now }
 {
     let end = line.iter().position(|c| *c == b'#').unwrap_or(line.len());
     &line[..end]
@@ -207,12 +206,15 @@ impl Command {
 }
 
 /// The command that a line writes, or none where it has no words.
-pub fn parse(heap: Global, line: &[u8]) -> Result<Option<Command>, Wrong> {
+pub fn parse(heap: Global, line: &[u8]) -> Result<Option<Command>, Wrong>
+    ensures { Parses line.now result }
+{
     let text = std::str::from_utf8(uncommented(line)).map_err(|_| Wrong::NotText)?;
-    let words: Vec<&str> = text.split_ascii_whitespace().collect(heap)?;
-    let [first, rest @ ..] = words.as_slice() else {
+    let mut words = text.split_ascii_whitespace();
+    let Some(first) = words.next() else {
         return Ok(None);
     };
     let verb = first.parse()?;
-    Command::of(heap, verb, rest).map(Some)
+    let words: Vec<&str> = words.collect(heap)?;
+    Command::of(heap, verb, &words).map(Some)
 }
