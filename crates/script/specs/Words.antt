@@ -6,6 +6,7 @@ use Rattle.script.specs.declared.wiring.Policy.{Policy}
 use Rattle.script.specs.declared.wiring.Policy.TheVariants.{Queues, Lru}
 use Rattle.script.specs.declared.wiring.Translator.{Translator}
 use Rattle.script.specs.declared.wiring.Translator.TheVariants.{Walker, Tlb, Tlb2}
+use Rattle.script.specs.declared.verb.Verb.TheVariants.{Wire}
 use Rattle.script.specs.declared.wrong.Wrong.{Wrong}
 use Rattle.script.specs.declared.wrong.Wrong.TheVariants.{UnknownWord}
 
@@ -15,7 +16,7 @@ Reads {A} spelling Refuses word r = MatchResult r (λ x. spelling x ≡ word) (�
 
 -- A value of a word of WIRE that spells none is an unknown word.
 abbrev pub IsUnknown : List ℕ → Wrong → Type 0
-IsUnknown word e = e ≡ UnknownWord
+IsUnknown word e = e ≡ UnknownWord Wire
 
 -- The values of policy=.
 abbrev pub policy_word : Policy → List ℕ

@@ -1,9 +1,11 @@
 //! Lines and the commands that they write.
-ghost use Rattle.std.specs.Prelude.{◌≡◌, ℕ, ◌<◌, ◌≤◌, length, take, IfOk, ◌≢◌, slice_index};
-ghost use Rattle.script.specs.Commands.{verb_of};
+ghost use Rattle.std.specs.Prelude.{◌≡◌, ℕ, IfOk};
+ghost use Rattle.script.specs.Commands.{Says, verb_of};
+ghost use Rattle.script.specs.Lines.{IsUncommented, Parses};
 ghost use Rattle.script.specs.Numbers.{Writes};
 
-use crate::number::limited;
+use crate::number::{byte_of, limited, word_of};
+use crate::start::Start;
 use crate::verb::Verb;
 use crate::wiring::Wiring;
 use crate::wrong::Wrong;
@@ -27,36 +29,33 @@ pub enum Command {
     Walk(u32, Option<Controls>),
     Controls,
     Slot(u32),
+    Ipl(Start),
+    Load(u32, u8),
+    Store(u32, u8, u8),
+    Fix(u32),
+    Free(u32),
+    Purge,
+    Settle,
+    Entry(u32),
+    Keys(u32, u32),
+    Frames,
+    Queues,
+    Pairs,
+    State,
 }
 
 /// The part of a line in front of its comment.
 pub fn uncommented(line: &[u8]) -> &[u8]
-    ensures front { result.now ≡ take (length result.now) line.now }
-    ensures clear { (k : ℕ) → k < length result.now → slice_index line.now k ≢ 35 }
-    ensures stops { length result.now < length line.now → slice_index line.now (length result.now) ≡ 35 }
+    ensures { IsUncommented line.now result.now }
 {
     let end = line.iter().position(|c| *c == b'#').unwrap_or(line.len());
     &line[..end]
 }
 
-// A number of 32 bits among the words behind a verb. (One function for both widths would want a trait of its own, by which a
-// clause says what number a `u32` or a `u8` is: that is no plainer than two lines.)
-fn word_of(verb: Verb, word: &str) -> Result<u32, Wrong>
-    ensures { IfOk result (Writes word.now) }
-{
-    limited(verb, word, u32::MAX)
-}
-
-// A number of 8 bits among the words behind a verb.
-fn byte_of(verb: Verb, word: &str) -> Result<u8, Wrong>
-    ensures { IfOk result (Writes word.now) }
-{
-    Ok(limited(verb, word, 255)? as u8)
-}
-
 // ALTER address byte byte ..
 fn alter(heap: Global, words: &[&str]) -> Result<Command, Wrong>
-    ensures { IfOk result (λ c. verb_of c ≡ Verb.Alter) }
+    ensures called { IfOk result (λ c. verb_of c ≡ Verb.Alter) }
+    ensures says { IfOk result (Says words.now) }
 {
     let [address, _, ..] = words else {
         return Err(Wrong::Arguments(Verb::Alter));
@@ -69,18 +68,25 @@ fn alter(heap: Global, words: &[&str]) -> Result<Command, Wrong>
     Ok(Command::Alter(address, bytes))
 }
 
+// WALK address cr0 cr1
+fn walk_by(address: &str, cr0: &str, cr1: &str) -> Result<Command, Wrong>
+    ensures called { IfOk result (λ c. verb_of c ≡ Verb.Walk) }
+    ensures says { IfOk result (λ c. (a : ℕ) × (x : ℕ) × (y : ℕ) × (c ≡ Command.Walk a (Some (record { cr0 = x; cr1 = y }))) × Writes address.now a × Writes cr0.now x × Writes cr1.now y) }
+{
+    let address = word_of(Verb::Walk, address)?;
+    let cr0 = word_of(Verb::Walk, cr0)?;
+    let cr1 = word_of(Verb::Walk, cr1)?;
+    Ok(Command::Walk(address, Some(Controls { cr0, cr1 })))
+}
+
 // WALK address, WALK address cr0 cr1
 fn walk(words: &[&str]) -> Result<Command, Wrong>
-    ensures { IfOk result (λ c. verb_of c ≡ Verb.Walk) }
+    ensures called { IfOk result (λ c. verb_of c ≡ Verb.Walk) }
+    ensures says { IfOk result (Says words.now) }
 {
     match words {
         [address] => Ok(Command::Walk(word_of(Verb::Walk, address)?, None)),
-        [address, cr0, cr1] => {
-            let address = word_of(Verb::Walk, address)?;
-            let cr0 = word_of(Verb::Walk, cr0)?;
-            let cr1 = word_of(Verb::Walk, cr1)?;
-            Ok(Command::Walk(address, Some(Controls { cr0, cr1 })))
-        }
+        [address, cr0, cr1] => walk_by(address, cr0, cr1),
         _ => Err(Wrong::Arguments(Verb::Walk)),
     }
 }
@@ -104,6 +110,33 @@ fn display(address: &str, count: &str) -> Result<Command, Wrong>
     ))
 }
 
+// LOAD address key
+fn load(address: &str, key: &str) -> Result<Command, Wrong>
+    ensures called { IfOk result (λ c. verb_of c ≡ Verb.Load) }
+    ensures says { IfOk result (λ c. (a : ℕ) × (k : ℕ) × (c ≡ Command.Load a k) × Writes address.now a × Writes key.now k) }
+{
+    Ok(Command::Load(word_of(Verb::Load, address)?, byte_of(Verb::Load, key)?))
+}
+
+// STORE address key byte
+fn store(address: &str, key: &str, byte: &str) -> Result<Command, Wrong>
+    ensures called { IfOk result (λ c. verb_of c ≡ Verb.Store) }
+    ensures says { IfOk result (λ c. (a : ℕ) × (k : ℕ) × (b : ℕ) × (c ≡ Command.Store a k b) × Writes address.now a × Writes key.now k × Writes byte.now b) }
+{
+    let address = word_of(Verb::Store, address)?;
+    let key = byte_of(Verb::Store, key)?;
+    let byte = byte_of(Verb::Store, byte)?;
+    Ok(Command::Store(address, key, byte))
+}
+
+// KEYS first count
+fn keys(first: &str, count: &str) -> Result<Command, Wrong>
+    ensures called { IfOk result (λ c. verb_of c ≡ Verb.Keys) }
+    ensures says { IfOk result (λ c. (f : ℕ) × (n : ℕ) × (c ≡ Command.Keys f n) × Writes first.now f × Writes count.now n) }
+{
+    Ok(Command::Keys(word_of(Verb::Keys, first)?, word_of(Verb::Keys, count)?))
+}
+
 impl Command {
     /// What the command is called.
     pub fn verb(&self) -> Verb
@@ -121,12 +154,26 @@ impl Command {
             Command::Walk(_, _) => Verb::Walk,
             Command::Controls => Verb::Controls,
             Command::Slot(_) => Verb::Slot,
+            Command::Ipl(_) => Verb::Ipl,
+            Command::Load(_, _) => Verb::Load,
+            Command::Store(_, _, _) => Verb::Store,
+            Command::Fix(_) => Verb::Fix,
+            Command::Free(_) => Verb::Free,
+            Command::Purge => Verb::Purge,
+            Command::Settle => Verb::Settle,
+            Command::Entry(_) => Verb::Entry,
+            Command::Keys(_, _) => Verb::Keys,
+            Command::Frames => Verb::Frames,
+            Command::Queues => Verb::Queues,
+            Command::Pairs => Verb::Pairs,
+            Command::State => Verb::State,
         }
     }
 
     /// The command of a verb and the words behind it.
     pub fn of(heap: Global, verb: Verb, words: &[&str]) -> Result<Command, Wrong>
-        ensures { IfOk result (λ c. verb_of c ≡ verb) }
+        ensures called { IfOk result (λ c. verb_of c ≡ verb) }
+        ensures says { IfOk result (Says words.now) }
     {
         match (verb, words) {
             (Verb::Help, []) => Ok(Command::Help),
@@ -140,18 +187,34 @@ impl Command {
             (Verb::Walk, _) => walk(words),
             (Verb::Controls, []) => Ok(Command::Controls),
             (Verb::Slot, [slot]) => Ok(Command::Slot(word_of(verb, slot)?)),
+            (Verb::Ipl, _) => Ok(Command::Ipl(Start::of(heap, words)?)),
+            (Verb::Load, [address, key]) => load(address, key),
+            (Verb::Store, [address, key, byte]) => store(address, key, byte),
+            (Verb::Fix, [page]) => Ok(Command::Fix(word_of(verb, page)?)),
+            (Verb::Free, [page]) => Ok(Command::Free(word_of(verb, page)?)),
+            (Verb::Purge, []) => Ok(Command::Purge),
+            (Verb::Settle, []) => Ok(Command::Settle),
+            (Verb::Entry, [page]) => Ok(Command::Entry(word_of(verb, page)?)),
+            (Verb::Keys, [first, count]) => keys(first, count),
+            (Verb::Frames, []) => Ok(Command::Frames),
+            (Verb::Queues, []) => Ok(Command::Queues),
+            (Verb::Pairs, []) => Ok(Command::Pairs),
+            (Verb::State, []) => Ok(Command::State),
             _ => Err(Wrong::Arguments(verb)),
         }
     }
 }
 
 /// The command that a line writes, or none where it has no words.
-pub fn parse(heap: Global, line: &[u8]) -> Result<Option<Command>, Wrong> {
+pub fn parse(heap: Global, line: &[u8]) -> Result<Option<Command>, Wrong>
+    ensures { Parses line.now result }
+{
     let text = std::str::from_utf8(uncommented(line)).map_err(|_| Wrong::NotText)?;
-    let words: Vec<&str> = text.split_ascii_whitespace().collect(heap)?;
-    let [first, rest @ ..] = words.as_slice() else {
+    let mut words = text.split_ascii_whitespace();
+    let Some(first) = words.next() else {
         return Ok(None);
     };
     let verb = first.parse()?;
-    Command::of(heap, verb, rest).map(Some)
+    let words: Vec<&str> = words.collect(heap)?;
+    Command::of(heap, verb, &words).map(Some)
 }

@@ -3,6 +3,7 @@
 
 pub mod command;
 pub mod number;
+pub mod start;
 pub mod verb;
 pub mod wiring;
 pub mod wrong;

@@ -66,3 +66,18 @@ pub(crate) fn limited(verb: Verb, word: &str, largest: u32) -> Result<u32, Wrong
 {
     number(word.as_bytes(), largest).map_err(|why| Wrong::Number(verb, why))
 }
+
+// A number of 32 bits among the words behind a verb. (One function for both widths would want a trait of its own, by which a
+// clause says what number a `u32` or a `u8` is: that is no plainer than two lines.)
+pub(crate) fn word_of(verb: Verb, word: &str) -> Result<u32, Wrong>
+    ensures { IfOk result (Writes word.now) }
+{
+    limited(verb, word, u32::MAX)
+}
+
+// A number of 8 bits among the words behind a verb.
+pub(crate) fn byte_of(verb: Verb, word: &str) -> Result<u8, Wrong>
+    ensures { IfOk result (Writes word.now) }
+{
+    Ok(limited(verb, word, 255)? as u8)
+}

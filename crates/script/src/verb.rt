@@ -21,6 +21,19 @@ pub enum Verb {
     Walk,
     Controls,
     Slot,
+    Ipl,
+    Load,
+    Store,
+    Fix,
+    Free,
+    Purge,
+    Settle,
+    Entry,
+    Keys,
+    Frames,
+    Queues,
+    Pairs,
+    State,
 }
 
 impl Verb {
@@ -40,6 +53,19 @@ impl Verb {
             Verb::Walk => "WALK",
             Verb::Controls => "CONTROLS",
             Verb::Slot => "SLOT",
+            Verb::Ipl => "IPL",
+            Verb::Load => "LOAD",
+            Verb::Store => "STORE",
+            Verb::Fix => "FIX",
+            Verb::Free => "FREE",
+            Verb::Purge => "PURGE",
+            Verb::Settle => "SETTLE",
+            Verb::Entry => "ENTRY",
+            Verb::Keys => "KEYS",
+            Verb::Frames => "FRAMES",
+            Verb::Queues => "QUEUES",
+            Verb::Pairs => "PAIRS",
+            Verb::State => "STATE",
         }
     }
 
@@ -57,11 +83,25 @@ impl Verb {
             Verb::Walk => "an address, and both control words or neither",
             Verb::Controls => "nothing",
             Verb::Slot => "a slot",
+            Verb::Ipl =>
+                "frames=, supervisor= and pages=, each at most once, and partition=first,count,key",
+            Verb::Load => "an address and a key",
+            Verb::Store => "an address, a key and a byte",
+            Verb::Fix => "a page",
+            Verb::Free => "a page",
+            Verb::Purge => "nothing",
+            Verb::Settle => "nothing",
+            Verb::Entry => "a page",
+            Verb::Keys => "a first frame and a count",
+            Verb::Frames => "nothing",
+            Verb::Queues => "nothing",
+            Verb::Pairs => "nothing",
+            Verb::State => "nothing",
         }
     }
 }
 
-/// The verb that a word spells. Of a word that spells none, the error says whether it is a command to the machine.
+/// The verb that a word spells.
 impl FromStr for Verb {
     type Err = Wrong;
 
@@ -80,30 +120,22 @@ impl FromStr for Verb {
             "WALK" => Ok(Verb::Walk),
             "CONTROLS" => Ok(Verb::Controls),
             "SLOT" => Ok(Verb::Slot),
-            _ if for_machine(word) => Err(Wrong::NoMachine),
+            "IPL" => Ok(Verb::Ipl),
+            "LOAD" => Ok(Verb::Load),
+            "STORE" => Ok(Verb::Store),
+            "FIX" => Ok(Verb::Fix),
+            "FREE" => Ok(Verb::Free),
+            "PURGE" => Ok(Verb::Purge),
+            "SETTLE" => Ok(Verb::Settle),
+            "ENTRY" => Ok(Verb::Entry),
+            "KEYS" => Ok(Verb::Keys),
+            "FRAMES" => Ok(Verb::Frames),
+            "QUEUES" => Ok(Verb::Queues),
+            "PAIRS" => Ok(Verb::Pairs),
+            "STATE" => Ok(Verb::State),
             _ => Err(Wrong::NoCommand),
         }
     }
-}
-
-// Whether a word is a command to the machine, of which a board has none yet.
-fn for_machine(word: &str) -> bool {
-    matches!(
-        word,
-        "IPL"
-            | "LOAD"
-            | "STORE"
-            | "FIX"
-            | "FREE"
-            | "PURGE"
-            | "SETTLE"
-            | "ENTRY"
-            | "KEYS"
-            | "FRAMES"
-            | "QUEUES"
-            | "PAIRS"
-            | "STATE"
-    )
 }
 
 impl fmt::Display for Verb {

@@ -1,4 +1,7 @@
 //! What a board is wired from, and the words of WIRE that say it.
+ghost use Rattle.std.specs.Prelude.{◌≡◌, IfOk, OnOk, codes};
+ghost use Rattle.script.specs.Said.{Takes, value_for};
+ghost use Rattle.script.specs.Wirings.{Chosen, IsHeld, SaysWiring, Spells, WritesSlots};
 ghost use Rattle.script.specs.Words.{IsUnknown, kind_word, policy_word, Reads, translator_word};
 
 use crate::number::limited;
@@ -67,9 +70,11 @@ struct Words<'a> {
 }
 
 // Takes in one value of a word that may stand once.
-fn once<T: Drop>(place: &mut Option<T>, value: T) -> Result<(), Wrong> {
+pub(crate) fn once<T: Drop>(verb: Verb, place: &mut Option<T>, value: T) -> Result<(), Wrong>
+    ensures { OnOk result ((place.old ≡ None) × (place.new ≡ Some value)) }
+{
     if place.is_some() {
-        return Err(Wrong::Twice);
+        return Err(Wrong::Twice(verb));
     }
     *place = Some(value);
     Ok(())
@@ -85,7 +90,7 @@ impl FromStr for Policy {
         match value {
             "queues" => Ok(Policy::Queues),
             "lru" => Ok(Policy::Lru),
-            _ => Err(Wrong::UnknownWord),
+            _ => Err(Wrong::UnknownWord(Verb::Wire)),
         }
     }
 }
@@ -101,7 +106,7 @@ impl FromStr for Translator {
             "walker" => Ok(Translator::Walker),
             "tlb" => Ok(Translator::Tlb),
             "tlb2" => Ok(Translator::Tlb2),
-            _ => Err(Wrong::UnknownWord),
+            _ => Err(Wrong::UnknownWord(Verb::Wire)),
         }
     }
 }
@@ -116,27 +121,39 @@ impl FromStr for Kind {
         match value {
             "plain" => Ok(Kind::Plain),
             "dataset" => Ok(Kind::DataSet),
-            _ => Err(Wrong::UnknownWord),
+            _ => Err(Wrong::UnknownWord(Verb::Wire)),
         }
     }
 }
 
 impl<'a> Words<'a> {
     // Takes in one word of WIRE.
-    fn take_in(&mut self, word: &'a str) -> Result<(), Wrong> {
-        let (name, value) = word.split_once('=').ok_or(Wrong::UnknownWord)?;
+    fn take_in(&mut self, word: &'a str) -> Result<(), Wrong>
+        ensures policy { OnOk result (Takes (Spells policy_word) (value_for (codes "policy") word.now) self.old.policy self.new.policy) }
+        ensures translator { OnOk result (Takes (Spells translator_word) (value_for (codes "translator") word.now) self.old.translator self.new.translator) }
+        ensures kind { OnOk result (Takes (Spells kind_word) (value_for (codes "store") word.now) self.old.kind self.new.kind) }
+        ensures slots { OnOk result (Takes WritesSlots (value_for (codes "slots") word.now) self.old.slots self.new.slots) }
+        ensures file { OnOk result (Takes IsHeld (value_for (codes "file") word.now) self.old.file self.new.file) }
+    {
+        let (name, value) = word.split_once('=').ok_or(Wrong::UnknownWord(Verb::Wire))?;
         match name {
-            "policy" => once(&mut self.policy, value.parse()?),
-            "translator" => once(&mut self.translator, value.parse()?),
-            "store" => once(&mut self.kind, value.parse()?),
-            "slots" => once(&mut self.slots, limited(Verb::Wire, value, MOST_WIRED)?),
-            "file" => once(&mut self.file, value),
-            _ => Err(Wrong::UnknownWord),
+            "policy" => once(Verb::Wire, &mut self.policy, value.parse()?),
+            "translator" => once(Verb::Wire, &mut self.translator, value.parse()?),
+            "store" => once(Verb::Wire, &mut self.kind, value.parse()?),
+            "slots" => once(
+                Verb::Wire,
+                &mut self.slots,
+                limited(Verb::Wire, value, MOST_WIRED)?,
+            ),
+            "file" => once(Verb::Wire, &mut self.file, value),
+            _ => Err(Wrong::UnknownWord(Verb::Wire)),
         }
     }
 
     // Where the pages come from: slots or a file, and a file for a data set only.
-    fn source(&self, heap: Global) -> Result<Source, Wrong> {
+    fn source(&self, heap: Global) -> Result<Source, Wrong>
+        ensures { IfOk result (Chosen self.now.kind self.now.slots self.now.file) }
+    {
         match (self.kind, self.slots, self.file) {
             (Some(Kind::Plain), Some(n), None) => Ok(Source::Plain(n)),
             (Some(Kind::DataSet), Some(n), None) => Ok(Source::Blank(n)),
@@ -150,7 +167,9 @@ impl<'a> Words<'a> {
 
 impl Wiring {
     /// The board that the words of WIRE say.
-    pub fn of(heap: Global, words: &[&str]) -> Result<Wiring, Wrong> {
+    pub fn of(heap: Global, words: &[&str]) -> Result<Wiring, Wrong>
+        ensures { IfOk result (SaysWiring words.now) }
+    {
         let mut met = Words::default();
         for word in words {
             met.take_in(word)?;

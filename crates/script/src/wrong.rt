@@ -15,20 +15,20 @@ pub enum Wrong {
     NotText,
     /// It begins with no command.
     NoCommand,
-    /// It begins with a command to the machine, of which a board has none yet.
-    NoMachine,
     /// Other words must follow the command.
     Arguments(Verb),
     /// A word is no number, or one that is too large.
     Number(Verb, NotNumber),
-    /// A word of WIRE that it does not know.
-    UnknownWord,
-    /// A word of WIRE that stands twice.
-    Twice,
+    /// A word that the command does not know.
+    UnknownWord(Verb),
+    /// A word of the command that may stand once stands twice.
+    Twice(Verb),
     /// The command stands before the first WIRE.
     NotWired(Verb),
     /// The command wants a data set, and the store is a plain area.
     NoMarks(Verb),
+    /// The command changes marks, and an IPL was answered.
+    Started(Verb),
     /// A file cannot be read.
     Unreadable,
     /// A file cannot be written.
@@ -58,16 +58,16 @@ impl fmt::Display for Wrong {
         match *self {
             Wrong::NotText => f.write_str("the line is no text"),
             Wrong::NoCommand => f.write_str("no such command; HELP prints the commands"),
-            Wrong::NoMachine => f.write_str("this board has no machine yet"),
             Wrong::Arguments(verb) => wants(f, verb),
             Wrong::Number(verb, why) => write!(f, "{verb}: {why}"),
-            Wrong::UnknownWord => f.write_str("WIRE: an unknown word"),
-            Wrong::Twice => f.write_str("WIRE: a word stands twice"),
+            Wrong::UnknownWord(verb) => write!(f, "{verb}: an unknown word"),
+            Wrong::Twice(verb) => write!(f, "{verb}: a word stands twice"),
             Wrong::NotWired(verb) => write!(f, "{verb} before the first WIRE"),
             Wrong::NoMarks(verb) => write!(
                 f,
                 "{verb} wants a data set, and the store is a plain area"
             ),
+            Wrong::Started(verb) => write!(f, "{verb} after an answered IPL"),
             Wrong::Unreadable => f.write_str("the file cannot be read"),
             Wrong::Unwritable => f.write_str("the file cannot be written"),
             Wrong::Memory => f.write_str("memory is not to be had"),
