@@ -60,7 +60,7 @@ impl<T: Translator, P: Policy, S: PageStore> Machine<T, P, S> {
     {
         let request = self.own.state.decode_free(storage, page)?;
         let Some(frame) = request.frame else {
-            unreachable()
+            unreachable!()
         };
         self.free_frame(frame);
         Ok(())

@@ -96,6 +96,7 @@ impl<T: Translator, P: Policy, S: PageStore> Machine<T, P, S> {
         if page != NO_PAGE && is_changed(key) {
             self.own.put_out(storage, frame, page);
             self.own.keys[usize::from(frame)] = change_off(key);
+            // By halves, as the definition has it: a mask would read no plainer.
             let settled = entry(storage, page) / 2 * 2;
             put_entry(storage, page, settled);
         }
@@ -104,7 +105,7 @@ impl<T: Translator, P: Policy, S: PageStore> Machine<T, P, S> {
     // The same for every pageable frame, in order.
     #[tactic(auto, using(layout::proofs::Made::more), unfolding(model::specs::Steps::swept))]
     pub(crate) fn settle_frames(&mut self, storage: &mut [u8])
-        ensures { world T.Translator P.Policy S.PageStore self.new storage.new ≡ swept (rules T.Translator P.Policy S.PageStore) (world T.Translator P.Policy S.PageStore self.old storage.old).config.supervisor ((world T.Translator P.Policy S.PageStore self.old storage.old).config.frames - (world T.Translator P.Policy S.PageStore self.old storage.old).config.supervisor) (world T.Translator P.Policy S.PageStore self.old storage.old) }
+        ensures { let w = world T.Translator P.Policy S.PageStore self.old storage.old in world T.Translator P.Policy S.PageStore self.new storage.new ≡ swept (rules T.Translator P.Policy S.PageStore) w.config.supervisor (w.config.frames - w.config.supervisor) w }
     {
         let first = self.own.state.layout().supervisor();
         let past = self.own.state.layout().frames();

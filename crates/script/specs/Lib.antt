@@ -5,3 +5,4 @@ pub mod Starts
 pub mod Wirings
 pub mod Verbs
 pub mod Commands
+pub mod Lines

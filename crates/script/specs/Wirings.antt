@@ -1,12 +1,13 @@
 -- What the words of WIRE say.
-use Rattle.std.specs.Prelude.{◌≡◌, ℕ, ◌≤◌, List, [], Option, Some, None, String, string_bytes}
+use Rattle.std.specs.Prelude.{◌≡◌, ℕ, ◌≤◌, List, [], Option, Some, None, String, codes, string_bytes}
 use Rattle.std.proofs.Common.{Bor}
 use Rattle.script.specs.Numbers.{Writes}
-use Rattle.script.specs.Said.{Once}
-use Rattle.script.specs.Words.{kind_word}
+use Rattle.script.specs.Said.{Once, values}
+use Rattle.script.specs.Words.{kind_word, policy_word, translator_word}
 use Rattle.script.specs.declared.wiring.Kind.{Kind}
 use Rattle.script.specs.declared.wiring.Source.{Source}
 use Rattle.script.specs.declared.wiring.Source.TheVariants.{Plain, Blank, File}
+use Rattle.script.specs.declared.wiring.Wiring.{Wiring}
 
 -- A text spells a value.
 abbrev pub Spells : {A : Type 0} → (A → List ℕ) → List ℕ → A → Type 0
@@ -36,3 +37,9 @@ abbrev pub SaysSource : List (List ℕ) → List (List ℕ) → List (List ℕ) 
 SaysSource kinds slots files (Plain n) = Once (Spells kind_word) kinds Kind.Plain × Once WritesSlots slots n × (files ≡ [])
 SaysSource kinds slots files (Blank n) = Once (Spells kind_word) kinds Kind.DataSet × Once WritesSlots slots n × (files ≡ [])
 SaysSource kinds slots files (File path) = Once (Spells kind_word) kinds Kind.DataSet × (slots ≡ []) × Once Names files path
+
+-- Words of WIRE say a wiring: policy and translator once each, and a source of the pages.
+pub record SaysWiring (words : List (Bor (List ℕ))) (wiring : Wiring) : Type 0 where
+  pub policy : Once (Spells policy_word) (values (codes "policy") words) wiring.policy
+  pub translator : Once (Spells translator_word) (values (codes "translator") words) wiring.translator
+  pub source : SaysSource (values (codes "store") words) (values (codes "slots") words) (values (codes "file") words) wiring.source

@@ -1,6 +1,7 @@
 //! Lines and the commands that they write.
-ghost use Rattle.std.specs.Prelude.{◌≡◌, ℕ, ◌<◌, ◌≤◌, length, take, IfOk, ◌≢◌, slice_index};
-ghost use Rattle.script.specs.Commands.{verb_of};
+ghost use Rattle.std.specs.Prelude.{◌≡◌, ℕ, IfOk};
+ghost use Rattle.script.specs.Commands.{Says, verb_of};
+ghost use Rattle.script.specs.Lines.{IsUncommented, Parses};
 ghost use Rattle.script.specs.Numbers.{Writes};
 
 use crate::number::{byte_of, limited, word_of};
@@ -45,9 +46,7 @@ pub enum Command {
 
 /// The part of a line in front of its comment.
 pub fn uncommented(line: &[u8]) -> &[u8]
-    ensures front { result.now ≡ take (length result.now) line.now }
-    ensures clear { (k : ℕ) → k < length result.now → slice_index line.now k ≢ 35 }
-    ensures stops { length result.now < length line.now → slice_index line.now (length result.now) ≡ 35 }
+    ensures { IsUncommented line.now result.now }
 {
     let end = line.iter().position(|c| *c == b'#').unwrap_or(line.len());
     &line[..end]
@@ -55,7 +54,8 @@ pub fn uncommented(line: &[u8]) -> &[u8]
 
 // ALTER address byte byte ..
 fn alter(heap: Global, words: &[&str]) -> Result<Command, Wrong>
-    ensures { IfOk result (λ c. verb_of c ≡ Verb.Alter) }
+    ensures called { IfOk result (λ c. verb_of c ≡ Verb.Alter) }
+    ensures says { IfOk result (Says words.now) }
 {
     let [address, _, ..] = words else {
         return Err(Wrong::Arguments(Verb::Alter));
@@ -68,18 +68,25 @@ fn alter(heap: Global, words: &[&str]) -> Result<Command, Wrong>
     Ok(Command::Alter(address, bytes))
 }
 
+// WALK address cr0 cr1
+fn walk_by(address: &str, cr0: &str, cr1: &str) -> Result<Command, Wrong>
+    ensures called { IfOk result (λ c. verb_of c ≡ Verb.Walk) }
+    ensures says { IfOk result (λ c. (a : ℕ) × (x : ℕ) × (y : ℕ) × (c ≡ Command.Walk a (Some (record { cr0 = x; cr1 = y }))) × Writes address.now a × Writes cr0.now x × Writes cr1.now y) }
+{
+    let address = word_of(Verb::Walk, address)?;
+    let cr0 = word_of(Verb::Walk, cr0)?;
+    let cr1 = word_of(Verb::Walk, cr1)?;
+    Ok(Command::Walk(address, Some(Controls { cr0, cr1 })))
+}
+
 // WALK address, WALK address cr0 cr1
 fn walk(words: &[&str]) -> Result<Command, Wrong>
-    ensures { IfOk result (λ c. verb_of c ≡ Verb.Walk) }
+    ensures called { IfOk result (λ c. verb_of c ≡ Verb.Walk) }
+    ensures says { IfOk result (Says words.now) }
 {
     match words {
         [address] => Ok(Command::Walk(word_of(Verb::Walk, address)?, None)),
-        [address, cr0, cr1] => {
-            let address = word_of(Verb::Walk, address)?;
-            let cr0 = word_of(Verb::Walk, cr0)?;
-            let cr1 = word_of(Verb::Walk, cr1)?;
-            Ok(Command::Walk(address, Some(Controls { cr0, cr1 })))
-        }
+        [address, cr0, cr1] => walk_by(address, cr0, cr1),
         _ => Err(Wrong::Arguments(Verb::Walk)),
     }
 }
@@ -165,7 +172,8 @@ impl Command {
 
     /// The command of a verb and the words behind it.
     pub fn of(heap: Global, verb: Verb, words: &[&str]) -> Result<Command, Wrong>
-        ensures { IfOk result (λ c. verb_of c ≡ verb) }
+        ensures called { IfOk result (λ c. verb_of c ≡ verb) }
+        ensures says { IfOk result (Says words.now) }
     {
         match (verb, words) {
             (Verb::Help, []) => Ok(Command::Help),
@@ -198,12 +206,15 @@ impl Command {
 }
 
 /// The command that a line writes, or none where it has no words.
-pub fn parse(heap: Global, line: &[u8]) -> Result<Option<Command>, Wrong> {
+pub fn parse(heap: Global, line: &[u8]) -> Result<Option<Command>, Wrong>
+    ensures { Parses line.now result }
+{
     let text = std::str::from_utf8(uncommented(line)).map_err(|_| Wrong::NotText)?;
-    let words: Vec<&str> = text.split_ascii_whitespace().collect(heap)?;
-    let [first, rest @ ..] = words.as_slice() else {
+    let mut words = text.split_ascii_whitespace();
+    let Some(first) = words.next() else {
         return Ok(None);
     };
     let verb = first.parse()?;
-    Command::of(heap, verb, rest).map(Some)
+    let words: Vec<&str> = words.collect(heap)?;
+    Command::of(heap, verb, &words).map(Some)
 }

@@ -1,9 +1,8 @@
 //! What IPL starts a machine with, and the words of IPL that say it.
 ghost use Rattle.std.specs.Prelude.{IfOk, OnOk, codes};
-ghost use Rattle.std.specs.List.{AllZip};
 ghost use Rattle.script.specs.Numbers.{Writes};
-ghost use Rattle.script.specs.Said.{Appends, OnceOrZero, Takes, value_for, values};
-ghost use Rattle.script.specs.Starts.{WritesPartition};
+ghost use Rattle.script.specs.Said.{Appends, Takes, value_for};
+ghost use Rattle.script.specs.Starts.{SaysStart, WritesPartition};
 
 use crate::number::{byte_of, word_of};
 use crate::verb::Verb;
@@ -65,10 +64,7 @@ impl Words {
 impl Start {
     /// The start that the words of IPL say. A number that none of them says is 0.
     pub fn of(heap: Global, words: &[&str]) -> Result<Start, Wrong>
-        ensures frames { IfOk result (λ s. OnceOrZero Writes (values (codes "frames") words.now) s.frames) }
-        ensures supervisor { IfOk result (λ s. OnceOrZero Writes (values (codes "supervisor") words.now) s.supervisor) }
-        ensures pages { IfOk result (λ s. OnceOrZero Writes (values (codes "pages") words.now) s.pages) }
-        ensures partitions { IfOk result (λ s. AllZip WritesPartition (values (codes "partition") words.now) s.partitions.items) }
+        ensures { IfOk result (SaysStart words.now) }
     {
         let mut met = Words {
             frames: None,

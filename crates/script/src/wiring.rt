@@ -1,7 +1,7 @@
 //! What a board is wired from, and the words of WIRE that say it.
 ghost use Rattle.std.specs.Prelude.{◌≡◌, IfOk, OnOk, codes};
-ghost use Rattle.script.specs.Said.{Once, Takes, value_for, values};
-ghost use Rattle.script.specs.Wirings.{Chosen, IsHeld, SaysSource, Spells, WritesSlots};
+ghost use Rattle.script.specs.Said.{Takes, value_for};
+ghost use Rattle.script.specs.Wirings.{Chosen, IsHeld, SaysWiring, Spells, WritesSlots};
 ghost use Rattle.script.specs.Words.{IsUnknown, kind_word, policy_word, Reads, translator_word};
 
 use crate::number::limited;
@@ -168,9 +168,7 @@ impl<'a> Words<'a> {
 impl Wiring {
     /// The board that the words of WIRE say.
     pub fn of(heap: Global, words: &[&str]) -> Result<Wiring, Wrong>
-        ensures policy { IfOk result (λ w. Once (Spells policy_word) (values (codes "policy") words.now) w.policy) }
-        ensures translator { IfOk result (λ w. Once (Spells translator_word) (values (codes "translator") words.now) w.translator) }
-        ensures source { IfOk result (λ w. SaysSource (values (codes "store") words.now) (values (codes "slots") words.now) (values (codes "file") words.now) w.source) }
+        ensures { IfOk result (SaysWiring words.now) }
     {
         let mut met = Words::default();
         for word in words {

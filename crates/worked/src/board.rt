@@ -4,7 +4,7 @@ ghost use Rattle.std.specs.List.{list_all};
 ghost use Rattle.model.specs.Layout.{entry_at};
 ghost use Rattle.storage.specs.Bytes.{half, word};
 
-use crate::stated::{FRAMES, Row, SHOWN, SLOTS};
+use crate::stated::{FRAMES, Held, Row, SHOWN, SLOTS};
 use dataset::data_set::DataSet;
 use layout::entries::entry;
 use machine::Machine;
@@ -71,9 +71,18 @@ impl Board {
         walk(&self.storage, controls, address)
     }
 
-    // Whether a queue holds these frames, the head first.
-    fn has_queue(&self, heap: Global, queue: Queue, frames: &[u8]) -> Result<bool, AllocError> {
-        Ok(self.machine.policy().frames(heap, queue)?.as_slice() == frames)
+    // What the queues hold, one queue after another.
+    fn held(&self, heap: Global) -> Result<Vec<Held>, AllocError> {
+        let mut held = Vec::new(heap);
+        for queue in Queue::ALL {
+            for frame in &self.machine.policy().frames(heap, queue)? {
+                held.push(Held {
+                    queue,
+                    frame: *frame,
+                })?;
+            }
+        }
+        Ok(held)
     }
 
     // Whether a frame has this page, and this storage key.
@@ -82,16 +91,15 @@ impl Board {
             && storage::byte(self.machine.keys(), frame as usize) == key
     }
 
+    // Whether the pageable frames have these pages and storage keys.
+    fn has_frames(&self, pages: &[u16; 3], keys: &[u8; 3]) -> bool {
+        (0..3).all(|i| self.has_frame(SHOWN[i], pages[i], keys[i]))
+    }
+
     /// Whether the pageable frames, their storage keys and the queues are as in a row.
     pub fn is_at(&self, heap: Global, row: &Row) -> Result<bool, AllocError> {
-        let mut same = true;
-        for (i, frame) in SHOWN.iter().enumerate() {
-            same &= self.has_frame(*frame, row.pages[i], row.keys[i]);
-        }
-        for (i, queue) in Queue::ALL.iter().enumerate() {
-            same &= self.has_queue(heap, *queue, row.queues[i])?;
-        }
-        Ok(same)
+        let held = self.held(heap)?;
+        Ok(self.has_frames(&row.pages, &row.keys) && held.as_slice() == &row.held[..])
     }
 
     /// Whether a slot holds a byte, and zeros behind it.

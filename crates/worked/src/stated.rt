@@ -2,6 +2,7 @@
 use layout::Sizes;
 use model::calls::{Answer, Call, Refusal, Reply};
 use model::shape::Partition;
+use queues::Queue;
 use tables::Refusal as Exception;
 
 /// How many frames main storage has, and the page store slots.
@@ -32,14 +33,24 @@ pub const PARTITIONS: [Partition; 2] = [
 /// The pageable frames.
 pub const SHOWN: [u8; 3] = [2, 3, 4];
 
-/// What is seen of the pageable frames: their pages, their storage keys, and the frames in Q00, Q01, Q10, Q11 and HQ.
+/// A frame that a queue holds.
+#[derive(Clone, Copy, PartialEq, Eq)]
+pub struct Held {
+    pub queue: Queue,
+    pub frame: u8,
+}
+
+/// What is seen of the pageable frames: their pages, their storage keys, and what the queues hold, Q00 first, HQ last, and
+/// the head of each first.
+#[derive(Clone, Copy)]
 pub struct Row {
     pub pages: [u16; 3],
     pub keys: [u8; 3],
-    pub queues: [&'static [u8]; 5],
+    pub held: [Held; 3],
 }
 
 /// A call, what it answers, and what is seen then.
+#[derive(Clone, Copy)]
 pub struct Step {
     pub call: Call,
     pub answer: Answer,
@@ -59,7 +70,20 @@ pub const WORDS: [(usize, u32); 3] = [
 pub const STARTED: Row = Row {
     pages: [NONE, NONE, NONE],
     keys: [0x00, 0x00, 0x00],
-    queues: [&[2, 3, 4], &[], &[], &[], &[]],
+    held: [
+        Held {
+            queue: Queue::Q00,
+            frame: 2,
+        },
+        Held {
+            queue: Queue::Q00,
+            frame: 3,
+        },
+        Held {
+            queue: Queue::Q00,
+            frame: 4,
+        },
+    ],
 };
 
 /// B: the entries of some pages.
@@ -87,7 +111,20 @@ pub const STORE: [Step; 1] = [Step {
     left: Row {
         pages: [8, NONE, NONE],
         keys: [0x16, 0x00, 0x00],
-        queues: [&[3, 4], &[], &[], &[], &[2]],
+        held: [
+            Held {
+                queue: Queue::Q00,
+                frame: 3,
+            },
+            Held {
+                queue: Queue::Q00,
+                frame: 4,
+            },
+            Held {
+                queue: Queue::Hq,
+                frame: 2,
+            },
+        ],
     },
 }];
 
@@ -105,7 +142,20 @@ pub const LOADS: [Step; 3] = [
         left: Row {
             pages: [8, 9, NONE],
             keys: [0x16, 0x14, 0x00],
-            queues: [&[4], &[], &[], &[], &[2, 3]],
+            held: [
+                Held {
+                    queue: Queue::Q00,
+                    frame: 4,
+                },
+                Held {
+                    queue: Queue::Hq,
+                    frame: 2,
+                },
+                Held {
+                    queue: Queue::Hq,
+                    frame: 3,
+                },
+            ],
         },
     },
     Step {
@@ -117,7 +167,20 @@ pub const LOADS: [Step; 3] = [
         left: Row {
             pages: [8, 9, 10],
             keys: [0x16, 0x14, 0x14],
-            queues: [&[], &[], &[], &[], &[2, 3, 4]],
+            held: [
+                Held {
+                    queue: Queue::Hq,
+                    frame: 2,
+                },
+                Held {
+                    queue: Queue::Hq,
+                    frame: 3,
+                },
+                Held {
+                    queue: Queue::Hq,
+                    frame: 4,
+                },
+            ],
         },
     },
     Step {
@@ -129,7 +192,20 @@ pub const LOADS: [Step; 3] = [
         left: Row {
             pages: [8, 11, 10],
             keys: [0x12, 0x14, 0x10],
-            queues: [&[4], &[2], &[], &[], &[3]],
+            held: [
+                Held {
+                    queue: Queue::Q00,
+                    frame: 4,
+                },
+                Held {
+                    queue: Queue::Q01,
+                    frame: 2,
+                },
+                Held {
+                    queue: Queue::Hq,
+                    frame: 3,
+                },
+            ],
         },
     },
 ];
@@ -147,7 +223,20 @@ pub const MORE_LOADS: [Step; 2] = [
         left: Row {
             pages: [8, 11, 12],
             keys: [0x12, 0x14, 0x14],
-            queues: [&[], &[2], &[], &[], &[3, 4]],
+            held: [
+                Held {
+                    queue: Queue::Q01,
+                    frame: 2,
+                },
+                Held {
+                    queue: Queue::Hq,
+                    frame: 3,
+                },
+                Held {
+                    queue: Queue::Hq,
+                    frame: 4,
+                },
+            ],
         },
     },
     Step {
@@ -159,7 +248,20 @@ pub const MORE_LOADS: [Step; 2] = [
         left: Row {
             pages: [13, 11, 12],
             keys: [0x14, 0x14, 0x14],
-            queues: [&[], &[], &[], &[], &[3, 4, 2]],
+            held: [
+                Held {
+                    queue: Queue::Hq,
+                    frame: 3,
+                },
+                Held {
+                    queue: Queue::Hq,
+                    frame: 4,
+                },
+                Held {
+                    queue: Queue::Hq,
+                    frame: 2,
+                },
+            ],
         },
     },
 ];
@@ -177,7 +279,20 @@ pub const REFUSALS: [Step; 5] = [
         left: Row {
             pages: [13, 8, 12],
             keys: [0x10, 0x14, 0x10],
-            queues: [&[4, 2], &[], &[], &[], &[3]],
+            held: [
+                Held {
+                    queue: Queue::Q00,
+                    frame: 4,
+                },
+                Held {
+                    queue: Queue::Q00,
+                    frame: 2,
+                },
+                Held {
+                    queue: Queue::Hq,
+                    frame: 3,
+                },
+            ],
         },
     },
     Step {
@@ -190,7 +305,20 @@ pub const REFUSALS: [Step; 5] = [
         left: Row {
             pages: [13, 8, 12],
             keys: [0x10, 0x14, 0x10],
-            queues: [&[4, 2], &[], &[], &[], &[3]],
+            held: [
+                Held {
+                    queue: Queue::Q00,
+                    frame: 4,
+                },
+                Held {
+                    queue: Queue::Q00,
+                    frame: 2,
+                },
+                Held {
+                    queue: Queue::Hq,
+                    frame: 3,
+                },
+            ],
         },
     },
     Step {
@@ -202,7 +330,20 @@ pub const REFUSALS: [Step; 5] = [
         left: Row {
             pages: [13, 8, 12],
             keys: [0x10, 0x14, 0x10],
-            queues: [&[4, 2], &[], &[], &[], &[3]],
+            held: [
+                Held {
+                    queue: Queue::Q00,
+                    frame: 4,
+                },
+                Held {
+                    queue: Queue::Q00,
+                    frame: 2,
+                },
+                Held {
+                    queue: Queue::Hq,
+                    frame: 3,
+                },
+            ],
         },
     },
     Step {
@@ -214,7 +355,20 @@ pub const REFUSALS: [Step; 5] = [
         left: Row {
             pages: [13, 8, 12],
             keys: [0x10, 0x14, 0x10],
-            queues: [&[4, 2], &[], &[], &[], &[3]],
+            held: [
+                Held {
+                    queue: Queue::Q00,
+                    frame: 4,
+                },
+                Held {
+                    queue: Queue::Q00,
+                    frame: 2,
+                },
+                Held {
+                    queue: Queue::Hq,
+                    frame: 3,
+                },
+            ],
         },
     },
     Step {
@@ -226,7 +380,20 @@ pub const REFUSALS: [Step; 5] = [
         left: Row {
             pages: [13, 8, 12],
             keys: [0x10, 0x14, 0x10],
-            queues: [&[4, 2], &[], &[], &[], &[3]],
+            held: [
+                Held {
+                    queue: Queue::Q00,
+                    frame: 4,
+                },
+                Held {
+                    queue: Queue::Q00,
+                    frame: 2,
+                },
+                Held {
+                    queue: Queue::Hq,
+                    frame: 3,
+                },
+            ],
         },
     },
 ];

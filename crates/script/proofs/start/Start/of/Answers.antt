@@ -12,18 +12,10 @@ loop-word-preserved c = record {
   partitions = appended_more WritesPartition (codes "partition") c.args.words.now c.loop-word.word-index _ _ _ c.loop-word-test.true c.loop-word.invariant.partitions c.in_ok-take_in.ensures.partitions;
 }
 
-pub returns-clause-frames : goal.returns-clause-frames
-returns-clause-frames c =
-    rw c.unwrap_or.ensures (once_or_zero Writes _ _ (said_all Writes (codes "frames") _ _ _ c.loop-word-test.false c.loop-word.invariant.frames))
-
-pub returns-clause-supervisor : goal.returns-clause-supervisor
-returns-clause-supervisor c =
-    rw c.unwrap_or-2.ensures (once_or_zero Writes _ _ (said_all Writes (codes "supervisor") _ _ _ c.loop-word-test.false c.loop-word.invariant.supervisor))
-
-pub returns-clause-pages : goal.returns-clause-pages
-returns-clause-pages c =
-    rw c.unwrap_or-3.ensures (once_or_zero Writes _ _ (said_all Writes (codes "pages") _ _ _ c.loop-word-test.false c.loop-word.invariant.pages))
-
-pub returns-clause-partitions : goal.returns-clause-partitions
-returns-clause-partitions c =
-    appended_all WritesPartition (codes "partition") _ _ _ c.loop-word-test.false c.loop-word.invariant.partitions
+pub returns : goal.returns
+returns c = record {
+  frames = rw c.unwrap_or.ensures (once_or_zero Writes _ _ (said_all Writes (codes "frames") _ _ _ c.loop-word-test.false c.loop-word.invariant.frames));
+  supervisor = rw c.unwrap_or-2.ensures (once_or_zero Writes _ _ (said_all Writes (codes "supervisor") _ _ _ c.loop-word-test.false c.loop-word.invariant.supervisor));
+  pages = rw c.unwrap_or-3.ensures (once_or_zero Writes _ _ (said_all Writes (codes "pages") _ _ _ c.loop-word-test.false c.loop-word.invariant.pages));
+  partitions = appended_all WritesPartition (codes "partition") _ _ _ c.loop-word-test.false c.loop-word.invariant.partitions;
+}
