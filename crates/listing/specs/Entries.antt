@@ -8,11 +8,11 @@ use Rattle.listing.specs.declared.entry.PageEntry.TheVariants.{InFrame, Out, Unu
 abbrev pub never_written : ℕ → Bool
 never_written e = not (bit_and e 1 == 0)
 
--- Bit 13 off: the page is in the frame that bits 0 to 12 name. Bit 13 on: the page is out, and bits 8 to 11 are its access
--- key; X'8005' alone is the entry of no page.
+-- Bit 13 off: the page is in the frame that bits 0 to 12 name. Bit 13 on: with bit 0 on it is the entry of no page, else
+-- the page is out, and bits 8 to 11 are its access key.
 abbrev pub says : ℕ → PageEntry
 says e = if bit_and e 4 == 0 then InFrame (e / 8) (never_written e)
-    else (if e == 0x8005 then Unused else Out (bit_and e 0xF0 / 16) (never_written e))
+    else (if bit_and e 0x8000 == 0 then Out (bit_and e 0xF0 / 16) (never_written e) else Unused)
 
 abbrev pub ending : Bool → List ℕ
 ending never = if never then codes " never written" else codes ""

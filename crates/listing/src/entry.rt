@@ -4,15 +4,14 @@ ghost use Rattle.listing.specs.Entries.{ending, never_written as is_never_writte
 
 use std::fmt;
 
-// Bits of an entry.
-const INVALID: u16 = 0x0004;
+// Bits of an entry. The first is on in an invalid entry of no page.
+const UNUSED: u16 = 0x8000;
 
 const ACCESS_KEY: u16 = 0x00F0;
 
-const NEVER_WRITTEN: u16 = 0x0001;
+const INVALID: u16 = 0x0004;
 
-/// The entry of no page.
-const UNUSED: u16 = 0x8005;
+const NEVER_WRITTEN: u16 = 0x0001;
 
 /// What a page entry says. Each value of the 16 bits says one of these; bits that none of them tells are left aside.
 #[derive(Clone, Copy, Debug, PartialEq, Eq)]
@@ -38,10 +37,10 @@ impl From<u16> for PageEntry {
     fn from(entry: u16) -> PageEntry {
         if entry & INVALID == 0 {
             PageEntry::InFrame(entry / 8, never_written(entry))
-        } else if entry == UNUSED {
-            PageEntry::Unused
-        } else {
+        } else if entry & UNUSED == 0 {
             PageEntry::Out(((entry & ACCESS_KEY) / 16) as u8, never_written(entry))
+        } else {
+            PageEntry::Unused
         }
     }
 }

@@ -2,7 +2,9 @@
 //! the answer to each line before it reads the next.
 #![tactic(auto)]
 
+mod commands;
 mod lines;
+mod wired;
 
 use lines::Console;
 use script::wrong::Wrong;
