@@ -1,10 +1,9 @@
 //! Main storage of another length, and the calls before any IPL.
 use crate::boards::{Board, LAST_FRAME, SMALLEST, WIDE, blank_listed, blank_queued};
-use crate::played::Step::{self, Key, Make, Record};
+use crate::played::Step::{self, Fix, Free, Key, Load, Purge, Record, Settle, Store};
 use crate::played::{ADDRESSING_5, DONE, KEY_36, SIZES_32, ZERO, play};
 use frames::Policy;
 use machine::Machine;
-use model::calls::Call;
 use pages::store::PageStore;
 use std::alloc::Global;
 use std::process::Abort;
@@ -13,45 +12,19 @@ use translation::Translator;
 
 // 32 before 36, 5, 4 and 38.
 const OTHER_LENGTH: [Step; 10] = [
-    Make(
-        Call::Load {
-            address: 4_096,
-            key: 1,
-        },
-        SIZES_32,
-    ),
-    Make(
-        Call::Load {
-            address: 4_294_967_295,
-            key: 16,
-        },
-        SIZES_32,
-    ),
-    Make(Call::Load { address: 0, key: 1 }, SIZES_32),
-    Make(
-        Call::Store {
-            address: 4_096,
-            key: 1,
-            byte: 9,
-        },
-        SIZES_32,
-    ),
-    Make(
-        Call::Store {
-            address: 4_096,
-            key: 16,
-            byte: 9,
-        },
-        SIZES_32,
-    ),
-    Make(Call::Fix { page: 2 }, SIZES_32),
-    Make(Call::Free { page: 2 }, SIZES_32),
-    Make(Call::Free { page: 9_000 }, SIZES_32),
-    Make(Call::Purge, SIZES_32),
-    Make(Call::Settle, SIZES_32),
+    Load(4_096, 1, SIZES_32),
+    Load(4_294_967_295, 16, SIZES_32),
+    Load(0, 1, SIZES_32),
+    Store(4_096, 1, 9, SIZES_32),
+    Store(4_096, 16, 9, SIZES_32),
+    Fix(2, SIZES_32),
+    Free(2, SIZES_32),
+    Free(9_000, SIZES_32),
+    Purge(SIZES_32),
+    Settle(SIZES_32),
 ];
 
-const RIGHT_LENGTH: [Step; 2] = [Make(Call::Purge, DONE), Make(Call::Settle, DONE)];
+const RIGHT_LENGTH: [Step; 2] = [Purge(DONE), Settle(DONE)];
 
 fn other_lengths<T: Translator, P: Policy, S: PageStore>(
     rt: &impl Abort,
@@ -87,49 +60,17 @@ fn lengths(rt: HostRuntime) -> Result<(), Fail> {
 }
 
 const BEFORE: [Step; 15] = [
-    Make(
-        Call::Load {
-            address: 0,
-            key: 15,
-        },
-        ADDRESSING_5,
-    ),
-    Make(
-        Call::Load {
-            address: 0,
-            key: 16,
-        },
-        KEY_36,
-    ),
-    Make(
-        Call::Load {
-            address: 4_294_967_295,
-            key: 0,
-        },
-        ADDRESSING_5,
-    ),
-    Make(
-        Call::Store {
-            address: 0,
-            key: 0,
-            byte: 9,
-        },
-        ADDRESSING_5,
-    ),
-    Make(
-        Call::Store {
-            address: 0,
-            key: 16,
-            byte: 9,
-        },
-        KEY_36,
-    ),
-    Make(Call::Fix { page: 0 }, ADDRESSING_5),
-    Make(Call::Fix { page: 65_535 }, ADDRESSING_5),
-    Make(Call::Free { page: 0 }, ADDRESSING_5),
-    Make(Call::Free { page: 65_535 }, ADDRESSING_5),
-    Make(Call::Purge, DONE),
-    Make(Call::Settle, DONE),
+    Load(0, 15, ADDRESSING_5),
+    Load(0, 16, KEY_36),
+    Load(4_294_967_295, 0, ADDRESSING_5),
+    Store(0, 0, 9, ADDRESSING_5),
+    Store(0, 16, 9, KEY_36),
+    Fix(0, ADDRESSING_5),
+    Fix(65_535, ADDRESSING_5),
+    Free(0, ADDRESSING_5),
+    Free(65_535, ADDRESSING_5),
+    Purge(DONE),
+    Settle(DONE),
     Key(0, 0),
     Key(255, 0),
     Record(0, 0xFFFF, 0),
@@ -155,16 +96,7 @@ fn calls_before_ipl(rt: HostRuntime) -> Result<(), Fail> {
     Ok(())
 }
 
-const AFTER: [Step; 2] = [
-    Make(
-        Call::Load {
-            address: 4_096,
-            key: 1,
-        },
-        ZERO,
-    ),
-    Record(1, 1, 0),
-];
+const AFTER: [Step; 2] = [Load(4_096, 1, ZERO), Record(1, 1, 0)];
 
 // A refused IPL before any answered one leaves a machine that has none.
 #[test]

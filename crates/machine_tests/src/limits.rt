@@ -1,12 +1,12 @@
 //! A page fixed 255 times, and all of 247 frames fixed.
 use crate::boards::{NARROW, WIDE, blank_listed, blank_queued};
-use crate::played::Step::{self, Make, Put, Record};
+use crate::played::Step::{self, Fix, Free, Load, Purge, Put, Record, Settle};
 use crate::played::{
     ALL_FIXED_35, DONE, FIX_LIMIT_37, NOT_FIXED_38, PROTECTION_4, TABLES_54, ZERO, make, play,
 };
 use frames::Policy;
 use machine::Machine;
-use model::calls::{Call, Reply};
+use model::calls::Call;
 use pages::store::PageStore;
 use std::alloc::Global;
 use std::process::Abort;
@@ -16,52 +16,34 @@ use translation::Translator;
 // Page 2 is fixed 254 times. The entry of page 2 stands at 2,052.
 const AT_THE_LIMIT: [Step; 19] = [
     Record(2, 2, 254),
-    Make(Call::Fix { page: 2 }, DONE),
+    Fix(2, DONE),
     Record(2, 2, 255),
-    Make(Call::Fix { page: 2 }, FIX_LIMIT_37),
+    Fix(2, FIX_LIMIT_37),
     Record(2, 2, 255),
-    Make(Call::Fix { page: 3 }, ALL_FIXED_35),
-    Make(Call::Fix { page: 1 }, PROTECTION_4),
-    Make(
-        Call::Load {
-            address: 4_096,
-            key: 1,
-        },
-        ZERO,
-    ),
+    Fix(3, ALL_FIXED_35),
+    Fix(1, PROTECTION_4),
+    Load(4_096, 1, ZERO),
     // 37 before 54
     Put(2_052, 0x0019),
-    Make(Call::Fix { page: 2 }, FIX_LIMIT_37),
-    Make(Call::Free { page: 2 }, TABLES_54),
+    Fix(2, FIX_LIMIT_37),
+    Free(2, TABLES_54),
     Put(2_052, 0x0011),
-    Make(Call::Free { page: 2 }, DONE),
+    Free(2, DONE),
     Record(2, 2, 254),
-    Make(Call::Fix { page: 2 }, DONE),
-    Make(Call::Fix { page: 2 }, FIX_LIMIT_37),
-    Make(Call::Purge, DONE),
-    Make(Call::Settle, DONE),
+    Fix(2, DONE),
+    Fix(2, FIX_LIMIT_37),
+    Purge(DONE),
+    Settle(DONE),
     Record(2, 2, 255),
 ];
 
 // Page 2 was freed 254 times after that.
 const FREED_AGAIN: [Step; 6] = [
-    Make(
-        Call::Load {
-            address: 6_144,
-            key: 1,
-        },
-        ALL_FIXED_35,
-    ),
-    Make(Call::Free { page: 2 }, DONE),
+    Load(6_144, 1, ALL_FIXED_35),
+    Free(2, DONE),
     Record(2, 2, 0),
-    Make(Call::Free { page: 2 }, NOT_FIXED_38),
-    Make(
-        Call::Load {
-            address: 6_144,
-            key: 1,
-        },
-        ZERO,
-    ),
+    Free(2, NOT_FIXED_38),
+    Load(6_144, 1, ZERO),
     Record(2, 3, 0),
 ];
 
@@ -101,55 +83,19 @@ fn fix_counts(rt: HostRuntime) -> Result<(), Fail> {
 
 // 246 pages are fixed, 9 to 199 and 1,000 to 1,054: one frame is left.
 const ONE_LEFT: [Step; 12] = [
-    Make(
-        Call::Load {
-            address: 8_388_608,
-            key: 1,
-        },
-        ZERO,
-    ),
-    Make(
-        Call::Load {
-            address: 16_775_168,
-            key: 1,
-        },
-        ZERO,
-    ),
-    Make(Call::Fix { page: 1_055 }, DONE),
+    Load(8_388_608, 1, ZERO),
+    Load(16_775_168, 1, ZERO),
+    Fix(1_055, DONE),
     // none is left
-    Make(
-        Call::Load {
-            address: 8_388_608,
-            key: 1,
-        },
-        ALL_FIXED_35,
-    ),
-    Make(Call::Fix { page: 1_056 }, ALL_FIXED_35),
-    Make(
-        Call::Load {
-            address: 18_432,
-            key: 1,
-        },
-        ZERO,
-    ),
-    Make(Call::Fix { page: 9 }, DONE),
-    Make(Call::Free { page: 9 }, DONE),
-    Make(
-        Call::Load {
-            address: 8_388_608,
-            key: 1,
-        },
-        ALL_FIXED_35,
-    ),
-    Make(Call::Free { page: 9 }, DONE),
-    Make(
-        Call::Load {
-            address: 8_388_608,
-            key: 1,
-        },
-        ZERO,
-    ),
-    Make(Call::Free { page: 9 }, NOT_FIXED_38),
+    Load(8_388_608, 1, ALL_FIXED_35),
+    Fix(1_056, ALL_FIXED_35),
+    Load(18_432, 1, ZERO),
+    Fix(9, DONE),
+    Free(9, DONE),
+    Load(8_388_608, 1, ALL_FIXED_35),
+    Free(9, DONE),
+    Load(8_388_608, 1, ZERO),
+    Free(9, NOT_FIXED_38),
 ];
 
 fn all_fixed<T: Translator, P: Policy, S: PageStore>(

@@ -11,11 +11,15 @@ use std::test::Fail;
 use storage::Number;
 use translation::Translator;
 
-/// A step of a test.
+/// A step of a test. The six calls have what they answer last.
 #[derive(Clone, Copy)]
 pub enum Step {
-    /// A call, and what it answers.
-    Make(Call, Answer),
+    Load(u32, u8, Answer),
+    Store(u32, u8, u8, Answer),
+    Fix(u32, Answer),
+    Free(u32, Answer),
+    Purge(Answer),
+    Settle(Answer),
     /// Main storage is altered from outside: a half-word at a place.
     Put(usize, u16),
     /// The half-word that stands at a place.
@@ -77,18 +81,30 @@ pub fn make<T: Translator, P: Policy, S: PageStore>(
     }
 }
 
-// Takes one step.
-fn take<T: Translator, P: Policy, S: PageStore>(
+// The call of a step and what it answers, if it is one.
+fn call_of(step: Step) -> Option<(Call, Answer)> {
+    match step {
+        Step::Load(address, key, answer) => Some((Call::Load { address, key }, answer)),
+        Step::Store(address, key, byte, answer) => {
+            Some((Call::Store { address, key, byte }, answer))
+        }
+        Step::Fix(page, answer) => Some((Call::Fix { page }, answer)),
+        Step::Free(page, answer) => Some((Call::Free { page }, answer)),
+        Step::Purge(answer) => Some((Call::Purge, answer)),
+        Step::Settle(answer) => Some((Call::Settle, answer)),
+        _ => None,
+    }
+}
+
+// Alters main storage or looks at the machine, where that is the step.
+fn look<T: Translator, P: Policy, S: PageStore>(
     rt: &impl Abort,
     name: &str,
-    machine: &mut Machine<T, P, S>,
+    machine: &Machine<T, P, S>,
     storage: &mut [u8],
     step: Step,
 ) {
     match step {
-        Step::Make(call, answer) => {
-            assert_eq!(rt; make(machine, storage, call), answer, "{name}: {call:?}");
-        }
         Step::Put(place, half) => half.write(storage, place),
         Step::See(place, half) => {
             assert_eq!(rt; u16::read(storage, place), half, "{name}: at {place}");
@@ -107,6 +123,23 @@ fn take<T: Translator, P: Policy, S: PageStore>(
                 "{name}: record of {frame}"
             );
         }
+        _ => {}
+    }
+}
+
+// Takes one step.
+fn take<T: Translator, P: Policy, S: PageStore>(
+    rt: &impl Abort,
+    name: &str,
+    machine: &mut Machine<T, P, S>,
+    storage: &mut [u8],
+    step: Step,
+) {
+    match call_of(step) {
+        Some((call, answer)) => {
+            assert_eq!(rt; make(machine, storage, call), answer, "{name}: {call:?}");
+        }
+        None => look(rt, name, machine, storage, step),
     }
 }
 

@@ -3,7 +3,7 @@ use crate::boards::{
     Board, LAST_FRAME, MIDDLE, NARROW, SMALLEST, TWO_PAGES, WHOLE, WIDE, WRONG_KEY, blank_listed,
     blank_queued,
 };
-use crate::played::Step::{self, Key, Make, Record, See};
+use crate::played::Step::{self, Fix, Free, Key, Load, Purge, Record, See, Settle, Store};
 use crate::played::{Case, DONE, NOT_FIXED_38, PROTECTION_4, ZERO, make, play, play_all};
 use frames::Policy;
 use machine::Machine;
@@ -122,35 +122,16 @@ fn controls(rt: HostRuntime) -> Result<(), Fail> {
 
 // A byte is stored, its page goes out for another and comes in again.
 const LEDGER: [Step; 14] = [
-    Make(
-        Call::Store {
-            address: 4_096,
-            key: 1,
-            byte: 7,
-        },
-        DONE,
-    ),
+    Store(4_096, 1, 7, DONE),
     See(2_052, 0x0011),
     Key(2, 0x16),
     Record(2, 2, 0),
-    Make(
-        Call::Load {
-            address: 6_144,
-            key: 1,
-        },
-        ZERO,
-    ),
+    Load(6_144, 1, ZERO),
     See(2_052, 0x0014),
     See(2_054, 0x0011),
     Key(2, 0x14),
     Record(2, 3, 0),
-    Make(
-        Call::Load {
-            address: 4_096,
-            key: 1,
-        },
-        Ok(Reply::Byte(7)),
-    ),
+    Load(4_096, 1, Ok(Reply::Byte(7))),
     See(2_052, 0x0010),
     See(2_054, 0x0015),
     Key(2, 0x14),
@@ -229,24 +210,10 @@ fn byte_outlives_many_pages(rt: HostRuntime) -> Result<(), Fail> {
 
 // Page 2 is changed and fixed, and its bytes are in its slot.
 const BEFORE: [Step; 6] = [
-    Make(
-        Call::Store {
-            address: 4_096,
-            key: 1,
-            byte: 7,
-        },
-        DONE,
-    ),
-    Make(Call::Settle, DONE),
-    Make(
-        Call::Store {
-            address: 4_097,
-            key: 1,
-            byte: 8,
-        },
-        DONE,
-    ),
-    Make(Call::Fix { page: 2 }, DONE),
+    Store(4_096, 1, 7, DONE),
+    Settle(DONE),
+    Store(4_097, 1, 8, DONE),
+    Fix(2, DONE),
     Key(2, 0x16),
     Record(2, 2, 1),
 ];
@@ -256,46 +223,14 @@ const ANEW: [Step; 11] = [
     Key(2, 0),
     Record(2, 0xFFFF, 0),
     See(2_052, 0x0015),
-    Make(Call::Free { page: 2 }, NOT_FIXED_38),
-    Make(
-        Call::Load {
-            address: 4_096,
-            key: 1,
-        },
-        ZERO,
-    ),
-    Make(
-        Call::Load {
-            address: 4_097,
-            key: 1,
-        },
-        ZERO,
-    ),
-    Make(
-        Call::Store {
-            address: 4_097,
-            key: 2,
-            byte: 9,
-        },
-        PROTECTION_4,
-    ),
-    Make(
-        Call::Store {
-            address: 4_097,
-            key: 1,
-            byte: 9,
-        },
-        DONE,
-    ),
-    Make(
-        Call::Load {
-            address: 4_097,
-            key: 1,
-        },
-        Ok(Reply::Byte(9)),
-    ),
-    Make(Call::Purge, DONE),
-    Make(Call::Settle, DONE),
+    Free(2, NOT_FIXED_38),
+    Load(4_096, 1, ZERO),
+    Load(4_097, 1, ZERO),
+    Store(4_097, 2, 9, PROTECTION_4),
+    Store(4_097, 1, 9, DONE),
+    Load(4_097, 1, Ok(Reply::Byte(9))),
+    Purge(DONE),
+    Settle(DONE),
 ];
 
 fn second_ipl<T: Translator, P: Policy, S: PageStore>(
@@ -326,22 +261,10 @@ const STILL: [Step; 7] = [
     Key(2, 0x16),
     Record(2, 2, 1),
     See(2_052, 0x0010),
-    Make(
-        Call::Load {
-            address: 4_096,
-            key: 1,
-        },
-        Ok(Reply::Byte(7)),
-    ),
-    Make(
-        Call::Load {
-            address: 4_097,
-            key: 1,
-        },
-        Ok(Reply::Byte(8)),
-    ),
-    Make(Call::Free { page: 2 }, DONE),
-    Make(Call::Free { page: 2 }, NOT_FIXED_38),
+    Load(4_096, 1, Ok(Reply::Byte(7))),
+    Load(4_097, 1, Ok(Reply::Byte(8))),
+    Free(2, DONE),
+    Free(2, NOT_FIXED_38),
 ];
 
 // What IPL refuses with 32, 33 and 34, where main storage has three frames and the store two slots.
