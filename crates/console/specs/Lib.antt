@@ -1,3 +1,3 @@
 pub mod Refusals
-pub mod Stores
 pub mod Answers
+pub mod Boards

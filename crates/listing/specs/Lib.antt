@@ -1,3 +1,7 @@
 pub mod Digests
 pub mod Hexadecimal
 pub mod Memory
+pub mod Entries
+pub mod Lines
+pub mod Records
+pub mod Slots

@@ -2,5 +2,9 @@
 #![tactic(auto)]
 
 pub mod digest;
+pub mod entry;
 pub mod hexadecimal;
+pub mod lines;
 pub mod memory;
+pub mod records;
+pub mod slots;

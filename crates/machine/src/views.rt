@@ -1,5 +1,8 @@
 //! What can be seen of a machine from outside, and its end.
-ghost use Rattle.std.specs.Prelude.{◌≡◌, []};
+ghost use Rattle.std.specs.Prelude.{◌≡◌, ◌≤◌, [], if◌then◌else◌, Some, None, ◌==◌};
+ghost use Rattle.std.specs.Borrow.{sem};
+ghost use Rattle.std.specs.Option.{option_map};
+ghost use Rattle.machine.specs.Lending.{LendsStore, LendsStoreIf};
 ghost use Rattle.machine.specs.Machine.{world};
 ghost use Rattle.table.specs.Table.{record_in};
 
@@ -14,7 +17,8 @@ use translation::Translator;
 impl<T: Translator, P: Policy, S: PageStore> Machine<T, P, S> {
     /// How many frames IPL was given; 0 before IPL.
     pub fn frames(&self) -> u16
-        ensures { result ≡ (world T.Translator P.Policy S.PageStore self.now []).config.frames }
+        ensures value { result ≡ (world T.Translator P.Policy S.PageStore self.now []).config.frames }
+        ensures few { result ≤ 256 }
     {
         self.own.state.layout().frames()
     }
@@ -56,23 +60,47 @@ impl<T: Translator, P: Policy, S: PageStore> Machine<T, P, S> {
 
     /// The translator.
     pub fn translator(&self) -> &T
-        ensures { T.Translator.model result.now ≡ (world T.Translator P.Policy S.PageStore self.now []).translator }
+        ensures value { result.now ≡ self.now.own.translator }
+        ensures model { T.Translator.model result.now ≡ (world T.Translator P.Policy S.PageStore self.now []).translator }
     {
         &self.own.translator
     }
 
     /// The policy.
     pub fn policy(&self) -> &P
-        ensures { P.Policy.model result.now ≡ (world T.Translator P.Policy S.PageStore self.now []).policy }
+        ensures value { result.now ≡ self.now.own.policy }
+        ensures model { P.Policy.model result.now ≡ (world T.Translator P.Policy S.PageStore self.now []).policy }
     {
         &self.own.policy
     }
 
     /// The page store.
     pub fn page_store(&self) -> &S
-        ensures { S.PageStore.model result.now ≡ (world T.Translator P.Policy S.PageStore self.now []).store }
+        ensures value { result.now ≡ self.now.own.store }
+        ensures model { S.PageStore.model result.now ≡ (world T.Translator P.Policy S.PageStore self.now []).store }
     {
         &self.own.store
+    }
+
+    // The page store, lent.
+    fn lend_store(&mut self) -> &mut S
+        ensures* follows { sem 𝓛 (LendsStore T.row P.row S.row self.entry result) }
+        ensures value { result.now ≡ self.old.own.store }
+    {
+        let own = &mut self.own;
+        &mut own.store
+    }
+
+    /// The page store, lent to be changed before the first answered IPL; none after it, since a machine's page store is its
+    /// own then.
+    pub fn page_store_mut(&mut self) -> Option<&mut S>
+        ensures* follows { sem 𝓛 (LendsStoreIf T.row P.row S.row self.entry result) }
+        ensures value { option_map (λ s. s.now) result ≡ (if self.old.own.state.config.frames == 0 then Some self.old.own.store else None) }
+    {
+        if self.frames() > 0 {
+            return None;
+        }
+        Some(self.lend_store())
     }
 
     /// The three parts, of which a machine is made anew.

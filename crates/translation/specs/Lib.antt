@@ -1,3 +1,4 @@
+pub mod Printed
 pub mod Translator
 pub mod Layers
 pub mod Runs

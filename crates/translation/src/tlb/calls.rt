@@ -22,6 +22,20 @@ impl<T> Tlb<T> {
             pairs: RecencyList::new(Pair { page: 0, start: 0 }),
         }
     }
+
+    /// The pairs held, the first to go first.
+    pub fn pairs(&self) -> &[Pair]
+        ensures { result.now ≡ self.now.pairs }
+    {
+        self.pairs.as_slice()
+    }
+
+    /// The translator below.
+    pub fn below(&self) -> &T
+        ensures { result.now ≡ self.now.below }
+    {
+        &self.below
+    }
 }
 
 // Drops every pair of a page. The others keep their order.
