@@ -2,7 +2,7 @@
 use model::calls::IplRefusal;
 
 /// Why a run is not begun. Then everything is as found.
-#[derive(Clone, Copy)]
+#[derive(Clone, Copy, PartialEq, Eq, Debug)]
 pub enum Stopped {
     /// IPL is refused.
     Refused(IplRefusal),

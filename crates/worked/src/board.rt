@@ -1,11 +1,15 @@
 //! The worked machine, its main storage, and what is seen of both.
-ghost use Rattle.std.specs.Prelude.{◌≡◌, ◌==◌};
+ghost use Rattle.std.specs.Prelude.{◌≡◌, ◌==◌, ◌&&◌, [], slice_index};
 ghost use Rattle.std.specs.List.{list_all};
-ghost use Rattle.model.specs.Layout.{entry_at};
+ghost use Rattle.machine.specs.Machine.{Does, world};
+ghost use Rattle.model.specs.Layout.{entry_at, page_in};
+ghost use Rattle.model.specs.Steps.{worked};
 ghost use Rattle.storage.specs.Bytes.{half, word};
+ghost use Rattle.tables.specs.Walk.{walk};
 
 use crate::stated::{FRAMES, Held, Row, SHOWN, SLOTS};
 use dataset::data_set::DataSet;
+use frames::Policy;
 use layout::entries::entry;
 use machine::Machine;
 use model::calls::{Answer, Call};
@@ -16,7 +20,7 @@ use runs::whole::make;
 use std::alloc::{AllocError, Global};
 use storage::{Number, PAGE};
 use tables::{Controls, Refusal, walk};
-use translation::{Tlb, Walker};
+use translation::{Tlb, Translator, Walker};
 
 /// A machine of five queues, a TLB over the walker and a page data set, and its main storage.
 #[derive(Drop)]
@@ -44,7 +48,9 @@ impl Board {
     }
 
     /// Makes a call.
-    pub fn make(&mut self, call: Call) -> Answer {
+    pub fn make(&mut self, call: Call) -> Answer
+        ensures { Does ⟦<Tlb<Walker> as Translator>⟧ ⟦<FiveQueues as Policy>⟧ ⟦<DataSet as PageStore>⟧ (λ q w. worked q call w) result (world ⟦<Tlb<Walker> as Translator>⟧ ⟦<FiveQueues as Policy>⟧ ⟦<DataSet as PageStore>⟧ self.old.machine self.old.storage.items) (world ⟦<Tlb<Walker> as Translator>⟧ ⟦<FiveQueues as Policy>⟧ ⟦<DataSet as PageStore>⟧ self.new.machine self.new.storage.items) }
+    {
         make(&mut self.machine, &mut self.storage, call)
     }
 
@@ -67,7 +73,9 @@ impl Board {
     }
 
     /// The walk of an address with other control words than the machine's.
-    pub fn walk_with(&self, controls: Controls, address: u32) -> Result<usize, Refusal> {
+    pub fn walk_with(&self, controls: Controls, address: u32) -> Result<usize, Refusal>
+        ensures { result ≡ walk self.now.storage.items controls address }
+    {
         walk(&self.storage, controls, address)
     }
 
@@ -86,7 +94,9 @@ impl Board {
     }
 
     // Whether a frame has this page, and this storage key.
-    fn has_frame(&self, frame: u8, page: u16, key: u8) -> bool {
+    fn has_frame(&self, frame: u8, page: u16, key: u8) -> bool
+        ensures { let seen = world ⟦<Tlb<Walker> as Translator>⟧ ⟦<FiveQueues as Policy>⟧ ⟦<DataSet as PageStore>⟧ self.now.machine [] in result ≡ (page_in seen.records frame == page && slice_index seen.keys frame == key) }
+    {
         self.machine.record(frame).page == page
             && storage::byte(self.machine.keys(), frame as usize) == key
     }
