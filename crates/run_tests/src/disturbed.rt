@@ -7,7 +7,7 @@ use crate::random::Random;
 use crate::run::Run;
 use frames::Policy;
 use machine::Machine;
-use model::calls::Call;
+use model::calls::{Answer, Call, Refusal};
 use model::shape::FrameRecord;
 use pages::store::PageStore;
 use std::alloc::{AllocError, Global};
@@ -68,23 +68,39 @@ fn unchanged(rt: &impl Abort, before: &Snapshot, after: &Snapshot, call: Call) {
     assert_eq!(rt; before.controls, after.controls, "control words, {call:?}");
 }
 
-// Makes a call. Where it is refused, all is as it was.
+// Whether main storage had the wrong length, or its tables were wrong.
+fn by_storage(answer: Answer) -> bool {
+    matches!(answer, Err(Refusal::Sizes | Refusal::Tables))
+}
+
+// A call that was refused for another reason than main storage is refused alike by the flat machine, and one that was
+// answered is answered by it, if with another byte. The flat machine then stands where the machine does.
+fn follows(rt: &impl Abort, flat: &mut Flat, call: Call, answer: Answer) {
+    if !by_storage(answer) {
+        assert_eq!(rt; flat.answer(call).err(), answer.err(), "{call:?}");
+    }
+}
+
+// Makes a call on main storage of the right length or of another. Where it is refused, all is as it was.
 fn refused_or_answered<T: Translator, P: Policy, S: PageStore>(
     rt: &impl Abort,
     heap: Global,
     machine: &mut Machine<T, P, S>,
     storage: &mut [u8],
     call: Call,
-) -> Result<(), AllocError> {
+) -> Result<Answer, AllocError> {
     let before = seen(heap, machine, storage)?;
-    if make(machine, storage, call).is_err() {
+    let answer = make(machine, storage, call);
+    let fits = storage.len() == 2048 * usize::from(machine.frames());
+    assert_eq!(rt; answer == Err(Refusal::Sizes), !fits, "{call:?}");
+    if answer.is_err() {
         let after = seen(heap, machine, storage)?;
         unchanged(rt, &before, &after, call);
     }
-    Ok(())
+    Ok(answer)
 }
 
-// A length for main storage: seldom another one, a byte less or none at all.
+// How many bytes of main storage are handed in: seldom none, or one too few.
 fn length(random: &mut Random, all: usize) -> usize {
     match random.below(40) {
         0 => 0,
@@ -93,17 +109,24 @@ fn length(random: &mut Random, all: usize) -> usize {
     }
 }
 
-// Alters one byte: mostly of the tables, which stand from 1,024 on.
-fn damage(random: &mut Random, storage: &mut [u8], end_of_tables: u32) {
-    let place = match random.below(4) {
+// Where a byte is altered: mostly in a page table, often in the segment table, seldom anywhere.
+fn place(random: &mut Random, pages: u32) -> u32 {
+    match random.below(8) {
         0 => random.below(20_000),
-        _ => 1024 + random.below(end_of_tables.saturating_sub(1024)).min(20_000),
-    };
+        1 | 2 => 1024 + random.below(64) % 64,
+        _ => 2048 + random.below(pages.saturating_mul(2)) % 16_384,
+    }
+}
+
+// Alters one byte: its last bit, all of it, or to any byte.
+fn damage(random: &mut Random, storage: &mut [u8], pages: u32) {
+    let place = place(random, pages);
+    let other = random.byte();
     if let Some(byte) = storage.get_mut(place as usize) {
         *byte = match random.below(3) {
             0 => *byte ^ 1,
             1 => 0,
-            _ => random.byte(),
+            _ => other,
         };
     }
 }
@@ -114,36 +137,51 @@ fn disturb<T: Translator, P: Policy, S: PageStore>(
     heap: Global,
     machine: &mut Machine<T, P, S>,
     storage: &mut [u8],
-    flat: &Flat,
+    flat: &mut Flat,
     random: &mut Random,
+    call: Call,
 ) -> Result<(), AllocError> {
-    if random.once_in(6) {
-        damage(random, storage, 2112);
+    if random.once_in(8) {
+        damage(random, storage, flat.sizes().pages);
     }
-    let call = draw(random, flat);
     let length = length(random, storage.len()).min(storage.len());
-    refused_or_answered(rt, heap, machine, &mut storage[..length], call)?;
+    let answer = refused_or_answered(rt, heap, machine, &mut storage[..length], call)?;
+    follows(rt, flat, call, answer);
     consistent(rt, machine, flat);
     Ok(())
 }
 
-/// Again and again IPL of a machine and then a few calls, on main storage altered from outside: each returns, and a
-/// refused one leaves everything as it was.
+// IPL of a machine, and then a few calls on main storage that is altered from outside: each returns, and a refused one
+// leaves everything as it was.
+fn disturbed_once<T: Translator, P: Policy, S: PageStore>(
+    rt: &impl Abort,
+    heap: Global,
+    machine: &mut Machine<T, P, S>,
+    run: &Run,
+    random: &mut Random,
+) -> Result<(), Fail> {
+    let partitions = run.partitions(heap)?;
+    let mut storage = run.storage(heap)?;
+    assert_eq!(rt; machine.ipl(&mut storage, run.sizes, &partitions), Ok(()));
+    let mut flat = Flat::new(heap, run)?;
+    for _ in 0..64 {
+        let call = draw(random, &flat, run);
+        disturb(rt, heap, machine, &mut storage, &mut flat, random, call)?;
+    }
+    Ok(())
+}
+
+/// The same so many times, each time with other calls.
 pub fn disturbed<T: Translator, P: Policy, S: PageStore>(
     rt: &impl Abort,
     heap: Global,
     machine: &mut Machine<T, P, S>,
     run: &Run,
+    times: u32,
 ) -> Result<(), Fail> {
-    let partitions = run.partitions(heap)?;
-    let flat = Flat::new(heap, run)?;
     let mut random = Random::new(run.seed);
-    let mut storage = run.storage(heap)?;
-    for index in 0..run.calls {
-        if index % 32 == 0 {
-            assert_eq!(rt; machine.ipl(&mut storage, run.sizes, &partitions), Ok(()));
-        }
-        disturb(rt, heap, machine, &mut storage, &flat, &mut random)?;
+    for _ in 0..times {
+        disturbed_once(rt, heap, machine, run, &mut random)?;
     }
     Ok(())
 }

@@ -1,6 +1,7 @@
 //! Calls drawn at random: mostly ones that are answered, and some with a bad key, page or address.
 use crate::flat::Flat;
 use crate::random::Random;
+use crate::run::Run;
 use model::calls::Call;
 
 // A page: seldom any number, seldom one of a few past the last, mostly one that there is.
@@ -46,25 +47,33 @@ fn key(random: &mut Random, flat: &Flat, address: u32) -> u8 {
     }
 }
 
-/// A call.
-pub fn draw(random: &mut Random, flat: &Flat) -> Call {
+// A Load or a Store.
+fn load_or_store(random: &mut Random, flat: &Flat) -> Call {
     let address = address(random, flat);
     let key = key(random, flat, address);
-    match random.below(100) {
-        0..40 => Call::Load { address, key },
-        40..76 => {
-            let byte = random.byte();
-            Call::Store { address, key, byte }
-        }
-        76..83 => {
-            let page = page_to_fix(random, flat);
-            Call::Fix { page }
-        }
-        83..92 => {
-            let page = page_to_fix(random, flat);
-            Call::Free { page }
-        }
-        92..96 => Call::Purge,
-        _ => Call::Settle,
+    if random.once_in(2) {
+        return Call::Load { address, key };
     }
+    let byte = random.byte();
+    Call::Store { address, key, byte }
+}
+
+/// A call.
+pub fn draw(random: &mut Random, flat: &Flat, run: &Run) -> Call {
+    let number = random.below(100);
+    if number < 4 {
+        return Call::Purge;
+    }
+    if number < 8 {
+        return Call::Settle;
+    }
+    if number.saturating_sub(8) < run.fix {
+        let page = page_to_fix(random, flat);
+        return Call::Fix { page };
+    }
+    if number.saturating_sub(8) < run.fix.saturating_add(run.free) {
+        let page = page_to_fix(random, flat);
+        return Call::Free { page };
+    }
+    load_or_store(random, flat)
 }

@@ -1,16 +1,22 @@
 //! What a run is made of.
 use layout::Sizes;
+use model::calls::Refusal;
 use model::shape::Partition;
 use std::alloc::{AllocError, Global};
 
-/// Sizes and partitions for IPL, the seed of the calls after it, and how many there are.
+/// What IPL is given, and how the calls after it are drawn.
 #[derive(Clone, Copy)]
 pub struct Run {
     pub sizes: Sizes,
-    /// first page, count and key of each
+    /// First page, count and key of each partition.
     pub partitions: &'static [(u32, u32, u8)],
     pub seed: u32,
-    pub calls: u32,
+    /// How many of 100 calls are a Fix.
+    pub fix: u32,
+    /// How many of 100 calls are a Free.
+    pub free: u32,
+    /// Refusals that have to be met in the run.
+    pub refusals: &'static [Refusal],
 }
 
 impl Run {

@@ -8,6 +8,7 @@ use frames::Policy;
 use layout::Sizes;
 use lru_list::LruList;
 use machine::Machine;
+use model::calls::Refusal;
 use pages::store::PageStore;
 use queues::FiveQueues;
 use std::alloc::Global;
@@ -15,8 +16,18 @@ use std::process::Abort;
 use std::test::Fail;
 use translation::{Tlb, Translator, Walker};
 
-// Few frames, so that faults are many: 1, 2, 3 and 14 of them are pageable.
-const RUNS: [Run; 4] = [
+// Refusals that the flat machine knows, apart from that of a page fixed 255 times.
+const USUAL: [Refusal; 5] = [
+    Refusal::Key,
+    Refusal::Addressing,
+    Refusal::Protection,
+    Refusal::NotFixed,
+    Refusal::AllFixed,
+];
+
+// Few frames, so that faults are many: 1, 2, 3 and 14 of them are pageable. In the last run pages are fixed far more often
+// than freed.
+const RUNS: [Run; 5] = [
     Run {
         sizes: Sizes {
             frames: 3,
@@ -25,7 +36,9 @@ const RUNS: [Run; 4] = [
         },
         partitions: &[(2, 3, 1)],
         seed: 1,
-        calls: 20,
+        fix: 4,
+        free: 9,
+        refusals: &USUAL,
     },
     Run {
         sizes: Sizes {
@@ -35,7 +48,9 @@ const RUNS: [Run; 4] = [
         },
         partitions: &[(2, 2, 1), (4, 1, 2), (30, 5, 3), (39, 1, 4)],
         seed: 77,
-        calls: 20,
+        fix: 5,
+        free: 9,
+        refusals: &USUAL,
     },
     Run {
         sizes: Sizes {
@@ -45,7 +60,9 @@ const RUNS: [Run; 4] = [
         },
         partitions: &[(8, 24, 1), (32, 1, 2)],
         seed: 5_000,
-        calls: 30,
+        fix: 5,
+        free: 9,
+        refusals: &USUAL,
     },
     Run {
         sizes: Sizes {
@@ -55,9 +72,29 @@ const RUNS: [Run; 4] = [
         },
         partitions: &[(6, 30, 15), (40, 20, 7)],
         seed: 123_456_789,
-        calls: 30,
+        fix: 12,
+        free: 9,
+        refusals: &USUAL,
+    },
+    Run {
+        sizes: Sizes {
+            frames: 5,
+            supervisor: 3,
+            pages: 9,
+        },
+        partitions: &[(3, 6, 9)],
+        seed: 99,
+        fix: 30,
+        free: 2,
+        refusals: &[Refusal::FixLimit, Refusal::AllFixed],
     },
 ];
+
+// Calls of each run on a machine beside the flat machine.
+const CALLS: u32 = 20_000;
+
+// How often a machine is started for each run and then disturbed.
+const TIMES: u32 = 100;
 
 // Slots for each of the runs.
 const SLOTS: u32 = 54;
@@ -69,8 +106,8 @@ fn play<T: Translator, P: Policy, S: PageStore>(
     machine: &mut Machine<T, P, S>,
 ) -> Result<(), Fail> {
     for run in &RUNS {
-        same_answers(rt, heap, machine, run)?;
-        disturbed(rt, heap, machine, run)?;
+        same_answers(rt, heap, machine, run, CALLS)?;
+        disturbed(rt, heap, machine, run, TIMES)?;
     }
     Ok(())
 }
