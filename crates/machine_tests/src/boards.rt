@@ -123,13 +123,28 @@ pub const MANY_FRAMES: Board = Board {
     partitions: &[(2, 1, 1)],
 };
 
-/// The partitions of rows.
-pub fn partitions(heap: Global, rows: &[Row]) -> Result<Vec<Partition>, AllocError> {
+/// What IPL answers.
+pub type Started = Result<(), IplRefusal>;
+
+// The partitions of rows.
+fn partitions(heap: Global, rows: &[Row]) -> Result<Vec<Partition>, AllocError> {
     let mut list = Vec::new(heap);
     for &(first, count, key) in rows {
         list.push(Partition { first, count, key })?;
     }
     Ok(list)
+}
+
+/// IPL of a machine.
+pub fn ipl<T: Translator, P: Policy, S: PageStore>(
+    heap: Global,
+    machine: &mut Machine<T, P, S>,
+    storage: &mut [u8],
+    sizes: Sizes,
+    rows: &[Row],
+) -> Result<Started, AllocError> {
+    let list = partitions(heap, rows)?;
+    Ok(machine.ipl(storage, sizes, &list))
 }
 
 impl Board {
@@ -149,9 +164,8 @@ impl Board {
         heap: Global,
         machine: &mut Machine<T, P, S>,
         storage: &mut [u8],
-    ) -> Result<Result<(), IplRefusal>, AllocError> {
-        let list = partitions(heap, self.partitions)?;
-        Ok(machine.ipl(storage, self.sizes, &list))
+    ) -> Result<Started, AllocError> {
+        ipl(heap, machine, storage, self.sizes, self.partitions)
     }
 }
 

@@ -1,24 +1,28 @@
 //! IPL: each of its conditions where it just holds and where it just does not.
-use crate::boards::{Board, Row, blank_queued, listed, partitions, queued};
+use crate::boards::{Row, Started, blank_queued, ipl, listed, queued};
 use area::PlainArea;
 use dataset::data_set::DataSet;
-use dataset::refusal::{MarkRefusal, OpenRefusal};
+use frames::Policy;
 use layout::Sizes;
+use machine::Machine;
 use model::calls::IplRefusal;
-use model::shape::Partition;
 use pages::fault::{Fault, StoreRefusal};
+use pages::store::PageStore;
 use std::alloc::Global;
+use std::process::Abort;
 use std::test::Fail;
-
-type Started = Result<(), IplRefusal>;
+use translation::Translator;
 
 const SIZES_32: Started = Err(IplRefusal::Sizes);
 
 const PARTITIONS_33: Started = Err(IplRefusal::Partitions);
 
-// Refused with 34, and the fault of a slot.
-fn slot_34(refusal: StoreRefusal, kind: u8, slot: u32) -> Started {
-    Err(IplRefusal::Slot(Fault::new(refusal, kind, slot)))
+// What IPL answers where a store of this kind has this fault at a slot, or none.
+fn refused_by(kind: u8, fault: Option<(StoreRefusal, u32)>) -> Started {
+    match fault {
+        None => Ok(()),
+        Some((refusal, slot)) => Err(IplRefusal::Slot(Fault::new(refusal, kind, slot))),
+    }
 }
 
 // Frames, supervisor frames, pages, bytes of main storage, and what IPL answers. The one partition is page K.
@@ -64,32 +68,58 @@ const SIZES: [(u32, u32, u32, usize, Started); 34] = [
     (256, 2, 3, 524_289, SIZES_32),
 ];
 
+// Whether the machine has the sizes that it was given.
+fn has_sizes<T: Translator, P: Policy, S: PageStore>(
+    machine: &Machine<T, P, S>,
+    sizes: Sizes,
+) -> bool {
+    u32::from(machine.frames()) == sizes.frames
+        && u32::from(machine.supervisor()) == sizes.supervisor
+        && u32::from(machine.pages()) == sizes.pages
+}
+
+// IPL with a partition of page K alone.
+fn sizes_are<T: Translator, P: Policy, S: PageStore>(
+    rt: &impl Abort,
+    heap: Global,
+    machine: &mut Machine<T, P, S>,
+    storage: &mut [u8],
+    sizes: Sizes,
+    answer: Started,
+) -> Result<(), Fail> {
+    let row = (sizes.supervisor, 1, 1);
+    let bytes = storage.len();
+    assert_eq!(rt;
+        ipl(heap, machine, storage, sizes, &[row])?,
+        answer,
+        "{sizes:?}, {bytes}"
+    );
+    if answer.is_ok() {
+        assert!(rt; has_sizes(machine, sizes), "{sizes:?}");
+    }
+    Ok(())
+}
+
 #[test]
 fn sizes(rt: HostRuntime) -> Result<(), Fail> {
-    let mut storage = vec![in rt.alloc(); 0u8; 526_336]?;
-    let mut machine = blank_queued(rt.alloc(), 8_190)?;
+    let heap = rt.alloc();
+    let mut storage = vec![in heap; 0u8; 526_336]?;
+    let mut machine = blank_queued(heap, 8_190)?;
     for (frames, supervisor, pages, bytes, answer) in SIZES {
         let sizes = Sizes {
             frames,
             supervisor,
             pages,
         };
-        let partition = Partition {
-            first: supervisor,
-            count: 1,
-            key: 1,
-        };
         let length = bytes.min(storage.len());
-        assert_eq!(rt;
-            machine.ipl(&mut storage[..length], sizes, &[partition]),
+        sizes_are(
+            &rt,
+            heap,
+            &mut machine,
+            &mut storage[..length],
+            sizes,
             answer,
-            "{sizes:?}, {bytes} bytes"
-        );
-        if answer.is_ok() {
-            assert_eq!(rt; u32::from(machine.frames()), frames);
-            assert_eq!(rt; u32::from(machine.supervisor()), supervisor);
-            assert_eq!(rt; u32::from(machine.pages()), pages);
-        }
+        )?;
     }
     Ok(())
 }
@@ -168,8 +198,8 @@ fn partition_lists(rt: HostRuntime) -> Result<(), Fail> {
     let mut storage = vec![in heap; 0u8; 10_240]?;
     let mut machine = blank_queued(heap, 31)?;
     for (rows, answer) in PARTITIONS {
-        let list = partitions(heap, rows)?;
-        assert_eq!(rt; machine.ipl(&mut storage, FIVE, &list), answer, "{list:?}");
+        let started = ipl(heap, &mut machine, &mut storage, FIVE, rows)?;
+        assert_eq!(rt; started, answer, "{rows:?}");
     }
     Ok(())
 }
@@ -222,6 +252,21 @@ const SLOTS: [(u32, u32, u32, u32, &[u32], Option<(StoreRefusal, u32)>); 17] = [
     ),
 ];
 
+// IPL with a partition of the last page alone, on a data set with so many slots and some of them bad.
+fn slots_are(
+    rt: &impl Abort,
+    heap: Global,
+    sizes: Sizes,
+    store: DataSet,
+    answer: Started,
+) -> Result<(), Fail> {
+    let mut storage = vec![in heap; 0u8; 2048 * sizes.frames as usize]?;
+    let row = (sizes.pages.saturating_sub(1), 1, 1);
+    let started = ipl(heap, &mut queued(store), &mut storage, sizes, &[row])?;
+    assert_eq!(rt; started, answer, "{sizes:?}");
+    Ok(())
+}
+
 #[test]
 fn slots(rt: HostRuntime) -> Result<(), Fail> {
     let heap = rt.alloc();
@@ -231,44 +276,27 @@ fn slots(rt: HostRuntime) -> Result<(), Fail> {
             supervisor,
             pages,
         };
-        let partition = Partition {
-            first: pages.saturating_sub(1),
-            count: 1,
-            key: 1,
-        };
-        let mut storage = vec![in heap; 0u8; 2048 * frames as usize]?;
-        let mut machine = queued(with_bad(heap, slots, bad)?);
-        let answer = fault.map_or(Ok(()), |(refusal, slot)| slot_34(refusal, 2, slot));
-        assert_eq!(rt;
-            machine.ipl(&mut storage, sizes, &[partition]),
-            answer,
-            "{sizes:?}, {slots} slots, bad {bad:?}"
-        );
+        let store = with_bad(heap, slots, bad)?;
+        slots_are(&rt, heap, sizes, store, refused_by(2, fault))?;
     }
     Ok(())
 }
 
-const PAGE_8: Partition = Partition {
-    first: 8,
-    count: 1,
-    key: 1,
-};
-
-// Bytes of a plain area, and the lowest slot that is not there, if any of 31 is not.
-const AREAS: [(usize, Option<u32>); 3] = [(63_488, None), (63_487, Some(30)), (0, Some(0))];
+// Bytes of a plain area, and the fault by which IPL is refused, if it is. 31 slots are asked for.
+const AREAS: [(usize, Option<(StoreRefusal, u32)>); 3] = [
+    (63_488, None),
+    (63_487, Some((StoreRefusal::NoSuchSlot, 30))),
+    (0, Some((StoreRefusal::NoSuchSlot, 0))),
+];
 
 #[test]
 fn slots_of_an_area(rt: HostRuntime) -> Result<(), Fail> {
     let heap = rt.alloc();
     let mut storage = vec![in heap; 0u8; 10_240]?;
-    for (bytes, missing) in AREAS {
+    for (bytes, fault) in AREAS {
         let mut machine = listed(PlainArea::new(vec![in heap; 0u8; bytes]?));
-        let answer = missing.map_or(Ok(()), |slot| slot_34(StoreRefusal::NoSuchSlot, 1, slot));
-        assert_eq!(rt;
-            machine.ipl(&mut storage, FIVE, &[PAGE_8]),
-            answer,
-            "{bytes} bytes"
-        );
+        let started = ipl(heap, &mut machine, &mut storage, FIVE, &[(8, 1, 1)])?;
+        assert_eq!(rt; started, refused_by(1, fault), "{bytes} bytes");
     }
     Ok(())
 }
@@ -277,31 +305,40 @@ fn slots_of_an_area(rt: HostRuntime) -> Result<(), Fail> {
 #[test]
 fn slots_of_none(rt: HostRuntime) -> Result<(), Fail> {
     let heap = rt.alloc();
-    let mut storage = vec![in heap; 0u8; 10_240]?;
     let mut store = DataSet::blank(heap, 31)?;
-    assert_eq!(rt;
-        store.set_mark(30, 3),
-        Err(MarkRefusal::NotDataSet(OpenRefusal::UnknownMark))
-    );
-    let mut machine = queued(store);
-    assert_eq!(rt;
-        machine.ipl(&mut storage, FIVE, &[PAGE_8]),
-        slot_34(StoreRefusal::NoSuchSlot, 2, 0)
-    );
-    Ok(())
+    assert!(rt; store.set_mark(30, 3).is_err());
+    slots_are(
+        &rt,
+        heap,
+        FIVE,
+        store,
+        refused_by(2, Some((StoreRefusal::NoSuchSlot, 0))),
+    )
 }
 
-// Sizes before partitions before slots.
+// What IPL answers to wrong sizes, wrong partitions and a bad slot 4; to the last two; to the last.
+const ORDER: [(usize, &[Row], Started); 3] = [
+    (10_239, &[], SIZES_32),
+    (10_240, &[], PARTITIONS_33),
+    (10_240, &[(8, 1, 1)], Err(IplRefusal::Slot(BAD_4))),
+];
+
+const BAD_4: Fault = Fault {
+    refusal: StoreRefusal::BadSlot,
+    kind: 2,
+    slot: 4,
+    cause: None,
+};
+
 #[test]
 fn order(rt: HostRuntime) -> Result<(), Fail> {
     let heap = rt.alloc();
     let mut storage = vec![in heap; 0u8; 10_240]?;
     let mut machine = queued(with_bad(heap, 31, &[4])?);
-    assert_eq!(rt; machine.ipl(&mut storage[1..], FIVE, &[]), SIZES_32);
-    assert_eq!(rt; machine.ipl(&mut storage, FIVE, &[]), PARTITIONS_33);
-    assert_eq!(rt;
-        machine.ipl(&mut storage, FIVE, &[PAGE_8]),
-        slot_34(StoreRefusal::BadSlot, 2, 4)
-    );
+    for (bytes, rows, answer) in ORDER {
+        let length = bytes.min(storage.len());
+        let started = ipl(heap, &mut machine, &mut storage[..length], FIVE, rows)?;
+        assert_eq!(rt; started, answer, "{bytes} bytes, {rows:?}");
+    }
     Ok(())
 }

@@ -104,7 +104,8 @@ fn refused_first(rt: HostRuntime) -> Result<(), Fail> {
     let heap = rt.alloc();
     let mut machine = blank_queued(heap, 0)?;
     let mut storage = SMALLEST.storage(heap)?;
-    assert!(rt; SMALLEST.start(heap, &mut machine, &mut storage)?.is_err());
+    let started = SMALLEST.start(heap, &mut machine, &mut storage)?;
+    assert!(rt; started.is_err());
     before_ipl(&rt, &mut machine);
     let mut machine = blank_queued(heap, 1)?;
     assert_eq!(rt; SMALLEST.start(heap, &mut machine, &mut storage)?, Ok(()));

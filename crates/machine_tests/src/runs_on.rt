@@ -107,15 +107,31 @@ const CONTROLS: [(Board, u32); 5] = [
     (LAST_FRAME, 0x0000_0400),
 ];
 
+fn controls_after<T: Translator, P: Policy, S: PageStore>(
+    rt: &impl Abort,
+    heap: Global,
+    machine: &mut Machine<T, P, S>,
+    board: Board,
+    cr1: u32,
+) -> Result<(), Fail> {
+    let mut storage = board.storage(heap)?;
+    assert_eq!(rt; board.start(heap, machine, &mut storage)?, Ok(()));
+    let cr0 = 0x0040_0000;
+    assert_eq!(rt; machine.controls(), Controls { cr0, cr1 });
+    Ok(())
+}
+
 #[test]
 fn controls(rt: HostRuntime) -> Result<(), Fail> {
     let heap = rt.alloc();
     for (board, cr1) in CONTROLS {
-        let mut machine = blank_queued(heap, board.slots())?;
-        let mut storage = board.storage(heap)?;
-        assert_eq!(rt; board.start(heap, &mut machine, &mut storage)?, Ok(()));
-        let cr0 = 0x0040_0000;
-        assert_eq!(rt; machine.controls(), Controls { cr0, cr1 });
+        controls_after(
+            &rt,
+            heap,
+            &mut blank_queued(heap, board.slots())?,
+            board,
+            cr1,
+        )?;
     }
     Ok(())
 }
@@ -267,24 +283,31 @@ const STILL: [Step; 7] = [
     Free(2, NOT_FIXED_38),
 ];
 
-// What IPL refuses with 32, 33 and 34, where main storage has three frames and the store two slots.
-const REFUSED: [Board; 3] = [WIDE, WRONG_KEY, NARROW];
+// What IPL refuses, and the number of its refusal, where main storage has three frames and the store two slots.
+const REFUSED: [(Board, u8); 3] = [(WIDE, 32), (WRONG_KEY, 33), (NARROW, 34)];
 
-#[test]
-fn refused_ipl(rt: HostRuntime) -> Result<(), Fail> {
-    let heap = rt.alloc();
-    let mut machine = blank_queued(heap, 2)?;
+fn goes_on<T: Translator, P: Policy, S: PageStore>(
+    rt: &impl Abort,
+    heap: Global,
+    machine: &mut Machine<T, P, S>,
+) -> Result<(), Fail> {
     let mut storage = TWO_PAGES.storage(heap)?;
-    assert_eq!(rt; TWO_PAGES.start(heap, &mut machine, &mut storage)?, Ok(()));
-    play(&rt, "before", &mut machine, &mut storage, &BEFORE);
+    assert_eq!(rt; TWO_PAGES.start(heap, machine, &mut storage)?, Ok(()));
+    play(rt, "before", machine, &mut storage, &BEFORE);
     let before = storage.clone()?;
-    let numbers = [32, 33, 34];
-    for (board, number) in REFUSED.into_iter().zip(numbers) {
-        let answer = board.start(heap, &mut machine, &mut storage)?;
+    for (board, number) in REFUSED {
+        let answer = board.start(heap, machine, &mut storage)?;
         assert_eq!(rt; answer.map_err(IplRefusal::number), Err(number));
         assert!(rt; storage.as_slice() == before.as_slice());
         assert_eq!(rt; machine.pages(), 4);
     }
-    play(&rt, "still", &mut machine, &mut storage, &STILL);
+    play(rt, "still", machine, &mut storage, &STILL);
     Ok(())
+}
+
+#[test]
+fn refused_ipl(rt: HostRuntime) -> Result<(), Fail> {
+    let heap = rt.alloc();
+    goes_on(&rt, heap, &mut blank_queued(heap, 2)?)?;
+    goes_on(&rt, heap, &mut blank_listed(heap, 2)?)
 }
