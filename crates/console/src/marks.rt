@@ -1,5 +1,5 @@
 //! The page store at the console.
-ghost use Rattle.std.specs.Prelude.{◌≡◌, IfOk, ◌==◌};
+ghost use Rattle.std.specs.Prelude.{◌≡◌, IfOk, false, ◌==◌};
 ghost use Rattle.machine.specs.Lending.{with_store};
 ghost use Rattle.console.specs.Answers.{bad_answer, mark_answer, marked_area, ShowsSlot};
 
@@ -34,7 +34,8 @@ impl<T: ShowPairs, P: ShowFrames, S: Marked> Board<T, P, S> {
     pub fn bad(&mut self, slot: u32) -> Result<Answer, Wrong>
         ensures answer { result ≡ bad_answer S.Marked.marks (self.old.machine.own.state.config.frames == 0) self.old.machine.own.store slot }
         ensures after { S.Marked.marks.area self.new.machine.own.store ≡ marked_area S.Marked.marks (self.old.machine.own.state.config.frames == 0) self.old.machine.own.store slot 2 }
-        ensures machine { self.new.machine ≡ with_store self.old.machine self.new.machine.own.store }
+        ensures others { self.new.machine ≡ with_store self.old.machine self.new.machine.own.store }
+        ensures started { (self.old.machine.own.state.config.frames == 0) ≡ false → self.new.machine ≡ self.old.machine }
         ensures kept { (self.new.storage ≡ self.old.storage) × (self.new.sized ≡ self.old.sized) }
     {
         let Some(store) = self.machine.page_store_mut() else {
@@ -51,7 +52,8 @@ impl<T: ShowPairs, P: ShowFrames, S: Marked> Board<T, P, S> {
     pub fn mark(&mut self, slot: u32, value: u8) -> Result<Answer, Wrong>
         ensures answer { result ≡ mark_answer S.Marked.marks (self.old.machine.own.state.config.frames == 0) self.old.machine.own.store slot value }
         ensures after { S.Marked.marks.area self.new.machine.own.store ≡ marked_area S.Marked.marks (self.old.machine.own.state.config.frames == 0) self.old.machine.own.store slot value }
-        ensures machine { self.new.machine ≡ with_store self.old.machine self.new.machine.own.store }
+        ensures others { self.new.machine ≡ with_store self.old.machine self.new.machine.own.store }
+        ensures started { (self.old.machine.own.state.config.frames == 0) ≡ false → self.new.machine ≡ self.old.machine }
         ensures kept { (self.new.storage ≡ self.old.storage) × (self.new.sized ≡ self.old.sized) }
     {
         let Some(store) = self.machine.page_store_mut() else {
