@@ -204,35 +204,50 @@ fn partition_lists(rt: HostRuntime) -> Result<(), Fail> {
     Ok(())
 }
 
-// A data set with some bad slots.
-fn with_bad(heap: Global, slots: u32, bad: &[u32]) -> Result<DataSet, Fail> {
+// A data set of so many slots, with marks put at some of them.
+fn with_marks(heap: Global, slots: u32, marks: &[(u32, u8)]) -> Result<DataSet, Fail> {
     let mut store = DataSet::blank(heap, slots)?;
-    for slot in bad {
-        store.mark_bad(*slot)?;
+    for &(slot, mark) in marks {
+        // a mark over 2 is put and refused
+        let _ = store.set_mark(slot, mark);
     }
     Ok(store)
 }
 
-// Frames, supervisor frames, pages, slots of the data set, those of them that are bad, and the fault by which IPL is
-// refused, if it is. The one partition is the last page.
-const SLOTS: [(u32, u32, u32, u32, &[u32], Option<(StoreRefusal, u32)>); 17] = [
+// Frames, supervisor frames, pages, slots of the data set, marks put at some of them (2 is bad), and the fault by which IPL
+// is refused, if it is. The one partition is the last page.
+const SLOTS: [(
+    u32,
+    u32,
+    u32,
+    u32,
+    &[(u32, u8)],
+    Option<(StoreRefusal, u32)>,
+); 19] = [
     (5, 2, 33, 31, &[], None),
     (5, 2, 33, 30, &[], Some((StoreRefusal::NoSuchSlot, 30))),
-    (5, 2, 33, 31, &[4], Some((StoreRefusal::BadSlot, 4))),
-    (5, 2, 33, 31, &[7, 4], Some((StoreRefusal::BadSlot, 4))),
+    (5, 2, 33, 31, &[(4, 2)], Some((StoreRefusal::BadSlot, 4))),
+    (
+        5,
+        2,
+        33,
+        31,
+        &[(7, 2), (4, 2)],
+        Some((StoreRefusal::BadSlot, 4)),
+    ),
     // of a page in no partition
-    (5, 2, 33, 31, &[0], Some((StoreRefusal::BadSlot, 0))),
-    (5, 2, 33, 31, &[30], Some((StoreRefusal::BadSlot, 30))),
+    (5, 2, 33, 31, &[(0, 2)], Some((StoreRefusal::BadSlot, 0))),
+    (5, 2, 33, 31, &[(30, 2)], Some((StoreRefusal::BadSlot, 30))),
     // from V - K on
-    (5, 2, 33, 32, &[31], None),
+    (5, 2, 33, 32, &[(31, 2)], None),
     // the lowest
-    (5, 2, 33, 10, &[4], Some((StoreRefusal::BadSlot, 4))),
+    (5, 2, 33, 10, &[(4, 2)], Some((StoreRefusal::BadSlot, 4))),
     (5, 2, 33, 3, &[], Some((StoreRefusal::NoSuchSlot, 3))),
     (5, 2, 33, 0, &[], Some((StoreRefusal::NoSuchSlot, 0))),
     (3, 2, 3, 1, &[], None),
-    (3, 2, 3, 1, &[0], Some((StoreRefusal::BadSlot, 0))),
+    (3, 2, 3, 1, &[(0, 2)], Some((StoreRefusal::BadSlot, 0))),
     (256, 255, 256, 0, &[], Some((StoreRefusal::NoSuchSlot, 0))),
-    (256, 255, 256, 2, &[1], None),
+    (256, 255, 256, 2, &[(1, 2)], None),
     (256, 9, 8_192, 8_183, &[], None),
     (
         256,
@@ -247,12 +262,29 @@ const SLOTS: [(u32, u32, u32, u32, &[u32], Option<(StoreRefusal, u32)>); 17] = [
         9,
         8_192,
         8_192,
-        &[8_183, 8_182],
+        &[(8_183, 2), (8_182, 2)],
         Some((StoreRefusal::BadSlot, 8_182)),
+    ),
+    // a data set that is refused for one of its marks has no slots, whatever the mark is of
+    (
+        5,
+        2,
+        33,
+        31,
+        &[(30, 3)],
+        Some((StoreRefusal::NoSuchSlot, 0)),
+    ),
+    (
+        5,
+        2,
+        33,
+        40,
+        &[(39, 255)],
+        Some((StoreRefusal::NoSuchSlot, 0)),
     ),
 ];
 
-// IPL with a partition of the last page alone, on a data set with so many slots and some of them bad.
+// IPL with a partition of the last page alone, on a data set with these slots.
 fn slots_are(
     rt: &impl Abort,
     heap: Global,
@@ -270,13 +302,13 @@ fn slots_are(
 #[test]
 fn slots(rt: HostRuntime) -> Result<(), Fail> {
     let heap = rt.alloc();
-    for (frames, supervisor, pages, slots, bad, fault) in SLOTS {
+    for (frames, supervisor, pages, slots, marks, fault) in SLOTS {
         let sizes = Sizes {
             frames,
             supervisor,
             pages,
         };
-        let store = with_bad(heap, slots, bad)?;
+        let store = with_marks(heap, slots, marks)?;
         slots_are(&rt, heap, sizes, store, refused_by(2, fault))?;
     }
     Ok(())
@@ -301,21 +333,6 @@ fn slots_of_an_area(rt: HostRuntime) -> Result<(), Fail> {
     Ok(())
 }
 
-// A data set that was refused has no slots.
-#[test]
-fn slots_of_none(rt: HostRuntime) -> Result<(), Fail> {
-    let heap = rt.alloc();
-    let mut store = DataSet::blank(heap, 31)?;
-    assert!(rt; store.set_mark(30, 3).is_err());
-    slots_are(
-        &rt,
-        heap,
-        FIVE,
-        store,
-        refused_by(2, Some((StoreRefusal::NoSuchSlot, 0))),
-    )
-}
-
 // What IPL answers to wrong sizes, wrong partitions and a bad slot 4; to the last two; to the last.
 const ORDER: [(usize, &[Row], Started); 3] = [
     (10_239, &[], SIZES_32),
@@ -334,7 +351,7 @@ const BAD_4: Fault = Fault {
 fn order(rt: HostRuntime) -> Result<(), Fail> {
     let heap = rt.alloc();
     let mut storage = vec![in heap; 0u8; 10_240]?;
-    let mut machine = queued(with_bad(heap, 31, &[4])?);
+    let mut machine = queued(with_marks(heap, 31, &[(4, 2)])?);
     for (bytes, rows, answer) in ORDER {
         let length = bytes.min(storage.len());
         let started = ipl(heap, &mut machine, &mut storage[..length], FIVE, rows)?;

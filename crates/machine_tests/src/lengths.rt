@@ -1,7 +1,9 @@
 //! Main storage of another length, and the calls before any IPL.
-use crate::boards::{Board, LAST_FRAME, SMALLEST, WIDE, blank_listed, blank_queued};
+use crate::boards::{
+    Board, LAST_FRAME, SMALLEST, TWO_PAGES, WIDE, WRONG_KEY, blank_listed, blank_queued,
+};
 use crate::played::Step::{self, Fix, Free, Key, Load, Purge, Record, Settle, Store};
-use crate::played::{ADDRESSING_5, DONE, KEY_36, SIZES_32, ZERO, play};
+use crate::played::{ADDRESSING_5, DONE, KEY_36, SIZES_32, play, start};
 use frames::Policy;
 use machine::Machine;
 use pages::store::PageStore;
@@ -33,20 +35,27 @@ fn other_lengths<T: Translator, P: Policy, S: PageStore>(
     board: Board,
 ) -> Result<(), Fail> {
     let mut storage = board.storage(heap)?;
-    assert_eq!(rt; board.start(heap, machine, &mut storage)?, Ok(()));
+    start(rt, heap, machine, &mut storage, board, Ok(()))?;
     let less = storage.len().saturating_sub(1);
     play(
         rt,
+        heap,
         "one byte short",
         machine,
         &mut storage[..less],
         &OTHER_LENGTH,
-    );
-    play(rt, "no byte", machine, &mut [], &OTHER_LENGTH);
-    play(rt, "as it was", machine, &mut storage, &RIGHT_LENGTH);
+    )?;
+    play(rt, heap, "no byte", machine, &mut [], &OTHER_LENGTH)?;
+    play(rt, heap, "as it was", machine, &mut storage, &RIGHT_LENGTH)?;
     storage.push(0)?;
-    play(rt, "one byte long", machine, &mut storage, &OTHER_LENGTH);
-    Ok(())
+    play(
+        rt,
+        heap,
+        "one byte long",
+        machine,
+        &mut storage,
+        &OTHER_LENGTH,
+    )
 }
 
 #[test]
@@ -79,36 +88,48 @@ const BEFORE: [Step; 15] = [
 
 fn before_ipl<T: Translator, P: Policy, S: PageStore>(
     rt: &impl Abort,
+    heap: Global,
     machine: &mut Machine<T, P, S>,
-) {
-    play(rt, "before IPL", machine, &mut [], &BEFORE);
-    play(rt, "before IPL, one byte", machine, &mut [0], &OTHER_LENGTH);
+) -> Result<(), Fail> {
+    play(rt, heap, "before IPL", machine, &mut [], &BEFORE)?;
+    play(
+        rt,
+        heap,
+        "before IPL, one byte",
+        machine,
+        &mut [0],
+        &OTHER_LENGTH,
+    )?;
     assert_eq!(rt; machine.frames(), 0);
     assert_eq!(rt; machine.supervisor(), 0);
     assert_eq!(rt; machine.pages(), 0);
+    Ok(())
 }
 
 #[test]
 fn calls_before_ipl(rt: HostRuntime) -> Result<(), Fail> {
     let heap = rt.alloc();
-    before_ipl(&rt, &mut blank_queued(heap, 1)?);
-    before_ipl(&rt, &mut blank_listed(heap, 1)?);
-    Ok(())
+    before_ipl(&rt, heap, &mut blank_queued(heap, 1)?)?;
+    before_ipl(&rt, heap, &mut blank_listed(heap, 1)?)
 }
 
-const AFTER: [Step; 2] = [Load(4_096, 1, ZERO), Record(1, 1, 0)];
-
 // A refused IPL before any answered one leaves a machine that has none.
-#[test]
-fn refused_first(rt: HostRuntime) -> Result<(), Fail> {
-    let heap = rt.alloc();
-    let mut machine = blank_queued(heap, 0)?;
+fn refused_first<T: Translator, P: Policy, S: PageStore>(
+    rt: &impl Abort,
+    heap: Global,
+    machine: &mut Machine<T, P, S>,
+) -> Result<(), Fail> {
     let mut storage = SMALLEST.storage(heap)?;
-    let started = SMALLEST.start(heap, &mut machine, &mut storage)?;
-    assert!(rt; started.is_err());
-    before_ipl(&rt, &mut machine);
-    let mut machine = blank_queued(heap, 1)?;
-    assert_eq!(rt; SMALLEST.start(heap, &mut machine, &mut storage)?, Ok(()));
-    play(&rt, "after", &mut machine, &mut storage, &AFTER);
-    Ok(())
+    start(rt, heap, machine, &mut storage, WIDE, Err(32))?;
+    start(rt, heap, machine, &mut storage, WRONG_KEY, Err(33))?;
+    start(rt, heap, machine, &mut storage, TWO_PAGES, Err(34))?;
+    before_ipl(rt, heap, machine)?;
+    start(rt, heap, machine, &mut storage, SMALLEST, Ok(()))
+}
+
+#[test]
+fn refused_ipl_first(rt: HostRuntime) -> Result<(), Fail> {
+    let heap = rt.alloc();
+    refused_first(&rt, heap, &mut blank_queued(heap, 1)?)?;
+    refused_first(&rt, heap, &mut blank_listed(heap, 1)?)
 }

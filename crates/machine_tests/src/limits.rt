@@ -3,6 +3,7 @@ use crate::boards::{NARROW, WIDE, blank_listed, blank_queued};
 use crate::played::Step::{self, Fix, Free, Load, Purge, Put, Record, Settle};
 use crate::played::{
     ALL_FIXED_35, DONE, FIX_LIMIT_37, NOT_FIXED_38, PROTECTION_4, TABLES_54, ZERO, make, play,
+    start,
 };
 use frames::Policy;
 use machine::Machine;
@@ -66,12 +67,18 @@ fn fixed_255_times<T: Translator, P: Policy, S: PageStore>(
     machine: &mut Machine<T, P, S>,
 ) -> Result<(), Fail> {
     let mut storage = NARROW.storage(heap)?;
-    assert_eq!(rt; NARROW.start(heap, machine, &mut storage)?, Ok(()));
+    start(rt, heap, machine, &mut storage, NARROW, Ok(()))?;
     repeat(rt, machine, &mut storage, Call::Fix { page: 2 }, 254);
-    play(rt, "at the limit", machine, &mut storage, &AT_THE_LIMIT);
+    play(
+        rt,
+        heap,
+        "at the limit",
+        machine,
+        &mut storage,
+        &AT_THE_LIMIT,
+    )?;
     repeat(rt, machine, &mut storage, Call::Free { page: 2 }, 254);
-    play(rt, "freed again", machine, &mut storage, &FREED_AGAIN);
-    Ok(())
+    play(rt, heap, "freed again", machine, &mut storage, &FREED_AGAIN)
 }
 
 #[test]
@@ -104,7 +111,7 @@ fn all_fixed<T: Translator, P: Policy, S: PageStore>(
     machine: &mut Machine<T, P, S>,
 ) -> Result<(), Fail> {
     let mut storage = WIDE.storage(heap)?;
-    assert_eq!(rt; WIDE.start(heap, machine, &mut storage)?, Ok(()));
+    start(rt, heap, machine, &mut storage, WIDE, Ok(()))?;
     for page in (9u32..200).chain(1_000..1_055) {
         assert_eq!(rt;
             make(machine, &mut storage, Call::Fix { page }),
@@ -112,8 +119,7 @@ fn all_fixed<T: Translator, P: Policy, S: PageStore>(
             "page {page}"
         );
     }
-    play(rt, "one left", machine, &mut storage, &ONE_LEFT);
-    Ok(())
+    play(rt, heap, "one left", machine, &mut storage, &ONE_LEFT)
 }
 
 #[test]

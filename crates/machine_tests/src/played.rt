@@ -2,7 +2,7 @@
 use crate::boards::{Board, blank_listed, blank_queued};
 use frames::Policy;
 use machine::Machine;
-use model::calls::{Answer, Call, Refusal, Reply};
+use model::calls::{Answer, Call, IplRefusal, Refusal, Reply};
 use model::shape::FrameRecord;
 use pages::store::PageStore;
 use std::alloc::Global;
@@ -20,6 +20,8 @@ pub enum Step {
     Free(u32, Answer),
     Purge(Answer),
     Settle(Answer),
+    /// IPL with main storage as it is, and the number of its refusal, if it is refused.
+    Ipl(Board, Result<(), u8>),
     /// Main storage is altered from outside: a half-word at a place.
     Put(usize, u16),
     /// The half-word that stands at a place.
@@ -28,6 +30,10 @@ pub enum Step {
     Key(usize, u8),
     /// The record of a frame: its page, and how often that is fixed.
     Record(u8, u16, u8),
+    /// Control word 1.
+    Control(u32),
+    /// The first two bytes of a slot.
+    Slot(u32, [u8; 2]),
 }
 
 /// What IPL is given, and the steps after it.
@@ -96,64 +102,78 @@ fn call_of(step: Step) -> Option<(Call, Answer)> {
     }
 }
 
-// Alters main storage or looks at the machine, where that is the step.
-fn look<T: Translator, P: Policy, S: PageStore>(
-    rt: &impl Abort,
-    name: &str,
+// The first bytes of a slot, or none where it cannot be read.
+fn first_of<S: PageStore>(store: &S, slot: u32) -> Option<[u8; 2]> {
+    let mut page = [0xFFu8; 2048];
+    store.read(slot, &mut page).ok()?;
+    Some([page[0], page[1]])
+}
+
+// Whether what a step tells of the machine or of main storage is so.
+fn holds<T: Translator, P: Policy, S: PageStore>(
     machine: &Machine<T, P, S>,
-    storage: &mut [u8],
+    storage: &[u8],
     step: Step,
-) {
+) -> bool {
     match step {
-        Step::Put(place, half) => half.write(storage, place),
-        Step::See(place, half) => {
-            assert_eq!(rt; u16::read(storage, place), half, "{name}: at {place}");
-        }
-        Step::Key(frame, key) => {
-            assert_eq!(rt;
-                machine.keys().get(frame).copied(),
-                Some(key),
-                "{name}: key of {frame}"
-            );
-        }
-        Step::Record(frame, page, fixes) => {
-            assert_eq!(rt;
-                machine.record(frame),
-                FrameRecord { page, fixes },
-                "{name}: record of {frame}"
-            );
-        }
-        _ => {}
+        Step::See(place, half) => u16::read(storage, place) == half,
+        Step::Key(frame, key) => machine.keys().get(frame).copied() == Some(key),
+        Step::Record(frame, page, fixes) => machine.record(frame) == FrameRecord { page, fixes },
+        Step::Control(word) => machine.controls().cr1 == word,
+        Step::Slot(slot, bytes) => first_of(machine.page_store(), slot) == Some(bytes),
+        _ => true,
     }
 }
 
-// Takes one step.
+/// IPL, and the number of its refusal. A refused one leaves main storage as it was.
+pub fn start<T: Translator, P: Policy, S: PageStore>(
+    rt: &impl Abort,
+    heap: Global,
+    machine: &mut Machine<T, P, S>,
+    storage: &mut [u8],
+    board: Board,
+    answer: Result<(), u8>,
+) -> Result<(), Fail> {
+    let before = storage.to_vec(heap)?;
+    let started = board.start(heap, machine, storage)?;
+    assert_eq!(rt; started.map_err(IplRefusal::number), answer);
+    assert!(rt; started.is_ok() || before.as_slice() == &storage[..]);
+    Ok(())
+}
+
+// Takes one step. False where what it tells of the machine or of main storage is not so.
 fn take<T: Translator, P: Policy, S: PageStore>(
     rt: &impl Abort,
-    name: &str,
+    heap: Global,
     machine: &mut Machine<T, P, S>,
     storage: &mut [u8],
     step: Step,
-) {
-    match call_of(step) {
-        Some((call, answer)) => {
-            assert_eq!(rt; make(machine, storage, call), answer, "{name}: {call:?}");
-        }
-        None => look(rt, name, machine, storage, step),
+) -> Result<bool, Fail> {
+    if let Some((call, answer)) = call_of(step) {
+        assert_eq!(rt; make(machine, storage, call), answer, "{call:?}");
     }
+    match step {
+        Step::Ipl(board, answer) => start(rt, heap, machine, storage, board, answer)?,
+        Step::Put(place, half) => half.write(storage, place),
+        _ => {}
+    }
+    Ok(holds(machine, storage, step))
 }
 
 /// Takes the steps one after another.
 pub fn play<T: Translator, P: Policy, S: PageStore>(
     rt: &impl Abort,
+    heap: Global,
     name: &str,
     machine: &mut Machine<T, P, S>,
     storage: &mut [u8],
     steps: &[Step],
-) {
-    for step in steps {
-        take(rt, name, machine, storage, *step);
+) -> Result<(), Fail> {
+    for (index, step) in steps.iter().enumerate() {
+        let held = take(rt, heap, machine, storage, *step)?;
+        assert!(rt; held, "{name}: step {index}");
     }
+    Ok(())
 }
 
 // IPL of a machine, and then the steps.
@@ -164,14 +184,8 @@ fn play_case<T: Translator, P: Policy, S: PageStore>(
     case: Case,
 ) -> Result<(), Fail> {
     let mut storage = case.board.storage(heap)?;
-    assert_eq!(rt;
-        case.board.start(heap, machine, &mut storage)?,
-        Ok(()),
-        "{}",
-        case.name
-    );
-    play(rt, case.name, machine, &mut storage, case.steps);
-    Ok(())
+    start(rt, heap, machine, &mut storage, case.board, Ok(()))?;
+    play(rt, heap, case.name, machine, &mut storage, case.steps)
 }
 
 /// Plays each case on both machines.
