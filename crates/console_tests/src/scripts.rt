@@ -5,6 +5,7 @@ use script::number::{NotNumber, number};
 use script::start::Start;
 use script::verb::Verb;
 use script::wrong::Wrong;
+use std::alloc::Global;
 use std::test::Fail;
 
 #[test]
@@ -37,79 +38,86 @@ fn lines(rt: HostRuntime) {
     assert_eq!(rt; parse(heap, b"LOADS 0 1"), Err(Wrong::NoCommand));
 }
 
-// The error of a number that is too large, or none.
-const LARGE: NotNumber = NotNumber::TooLarge;
+// Whether a line writes a command.
+fn writes(heap: Global, line: &str, command: &Command) -> bool {
+    match parse(heap, line.as_bytes()) {
+        Ok(Some(read)) => read == *command,
+        _ => false,
+    }
+}
 
-const NONE: NotNumber = NotNumber::Malformed;
+// Whether a line is wrong, and for this reason.
+fn is_wrong(heap: Global, line: &str, why: Wrong) -> bool {
+    match parse(heap, line.as_bytes()) {
+        Ok(_) => false,
+        Err(wrong) => wrong == why,
+    }
+}
+
+// Whether each of some lines has too many or too few words behind a verb.
+fn want_others(heap: Global, verb: Verb, lines: &[&str]) -> bool {
+    lines
+        .iter()
+        .all(|line| is_wrong(heap, line, Wrong::Arguments(verb)))
+}
+
+// Whether each of some lines has a number that is too large.
+fn are_too_large(heap: Global, verb: Verb, lines: &[&str]) -> bool {
+    let why = Wrong::Number(verb, NotNumber::TooLarge);
+    lines.iter().all(|line| is_wrong(heap, line, why))
+}
+
+// Whether each of some lines has a word that is no number.
+fn are_no_numbers(heap: Global, verb: Verb, lines: &[&str]) -> bool {
+    let why = Wrong::Number(verb, NotNumber::Malformed);
+    lines.iter().all(|line| is_wrong(heap, line, why))
+}
 
 #[test]
-fn calls(rt: HostRuntime) {
+fn loads_and_stores(rt: HostRuntime) {
     let heap = rt.alloc();
-    assert_eq!(rt;
-        parse(heap, b"LOAD 4294967295 255"),
-        Ok(Some(Command::Load(u32::MAX, 255)))
+    assert!(rt; writes(heap, "LOAD 4294967295 255", &Command::Load(u32::MAX, 255)));
+    assert!(rt;
+        writes(
+            heap,
+            "STORE X'FFFFFFFF' 16 X'fF'",
+            &Command::Store(u32::MAX, 16, 255)
+        )
     );
-    assert_eq!(rt;
-        parse(heap, b"LOAD 4294967296 1"),
-        Err(Wrong::Number(Verb::Load, LARGE))
-    );
-    assert_eq!(rt;
-        parse(heap, b"LOAD 0 256"),
-        Err(Wrong::Number(Verb::Load, LARGE))
-    );
-    assert_eq!(rt; parse(heap, b"LOAD 0"), Err(Wrong::Arguments(Verb::Load)));
-    assert_eq!(rt;
-        parse(heap, b"STORE X'FFFFFFFF' 16 X'fF'"),
-        Ok(Some(Command::Store(u32::MAX, 16, 255)))
-    );
-    assert_eq!(rt;
-        parse(heap, b"STORE 0 256 0"),
-        Err(Wrong::Number(Verb::Store, LARGE))
-    );
-    assert_eq!(rt;
-        parse(heap, b"STORE 0 0 256"),
-        Err(Wrong::Number(Verb::Store, LARGE))
-    );
-    assert_eq!(rt;
-        parse(heap, b"STORE 0 0"),
-        Err(Wrong::Arguments(Verb::Store))
-    );
-    assert_eq!(rt;
-        parse(heap, b"FIX 4294967295"),
-        Ok(Some(Command::Fix(u32::MAX)))
-    );
-    assert_eq!(rt;
-        parse(heap, b"FIX 4294967296"),
-        Err(Wrong::Number(Verb::Fix, LARGE))
-    );
-    assert_eq!(rt; parse(heap, b"FREE 8 # not 9"), Ok(Some(Command::Free(8))));
-    assert_eq!(rt; parse(heap, b"FREE"), Err(Wrong::Arguments(Verb::Free)));
-    assert_eq!(rt; parse(heap, b"PURGE"), Ok(Some(Command::Purge)));
-    assert_eq!(rt; parse(heap, b"SETTLE"), Ok(Some(Command::Settle)));
-    assert_eq!(rt;
-        parse(heap, b"SETTLE 1"),
-        Err(Wrong::Arguments(Verb::Settle))
-    );
+    let large = ["LOAD 4294967296 1", "LOAD 0 256", "LOAD 0 X'100'"];
+    assert!(rt; are_too_large(heap, Verb::Load, &large));
+    let large = ["STORE 4294967296 0 0", "STORE 0 256 0", "STORE 0 0 256"];
+    assert!(rt; are_too_large(heap, Verb::Store, &large));
+}
+
+#[test]
+fn other_calls(rt: HostRuntime) {
+    let heap = rt.alloc();
+    assert!(rt; writes(heap, "FIX 4294967295", &Command::Fix(u32::MAX)));
+    assert!(rt; writes(heap, "FREE 8 # not 9", &Command::Free(8)));
+    assert!(rt; writes(heap, "PURGE", &Command::Purge));
+    assert!(rt; writes(heap, "SETTLE", &Command::Settle));
+    assert!(rt; are_too_large(heap, Verb::Fix, &["FIX 4294967296"]));
 }
 
 #[test]
 fn looks(rt: HostRuntime) {
     let heap = rt.alloc();
-    assert_eq!(rt; parse(heap, b"ENTRY X'8'"), Ok(Some(Command::Entry(8))));
-    assert_eq!(rt;
-        parse(heap, b"ENTRY p"),
-        Err(Wrong::Number(Verb::Entry, NONE))
-    );
-    assert_eq!(rt;
-        parse(heap, b"KEYS 4294967295 4294967295"),
-        Ok(Some(Command::Keys(u32::MAX, u32::MAX)))
-    );
-    assert_eq!(rt; parse(heap, b"KEYS 0"), Err(Wrong::Arguments(Verb::Keys)));
-    assert_eq!(rt; parse(heap, b"FRAMES"), Ok(Some(Command::Frames)));
-    assert_eq!(rt; parse(heap, b"QUEUES"), Ok(Some(Command::Queues)));
-    assert_eq!(rt; parse(heap, b"PAIRS"), Ok(Some(Command::Pairs)));
-    assert_eq!(rt; parse(heap, b"STATE"), Ok(Some(Command::State)));
-    assert_eq!(rt; parse(heap, b"STATE 0"), Err(Wrong::Arguments(Verb::State)));
+    assert!(rt; writes(heap, "ENTRY X'8'", &Command::Entry(8)));
+    assert!(rt; writes(heap, "KEYS 4294967295 0", &Command::Keys(u32::MAX, 0)));
+    assert!(rt; writes(heap, "FRAMES", &Command::Frames));
+    assert!(rt; writes(heap, "QUEUES", &Command::Queues));
+    assert!(rt; writes(heap, "PAIRS", &Command::Pairs));
+    assert!(rt; writes(heap, "STATE", &Command::State));
+}
+
+#[test]
+fn missing_words(rt: HostRuntime) {
+    let heap = rt.alloc();
+    assert!(rt; want_others(heap, Verb::Load, &["LOAD", "LOAD 0", "LOAD 0 0 0"]));
+    assert!(rt; want_others(heap, Verb::Store, &["STORE 0 0", "STORE 0 0 0 0"]));
+    assert!(rt; want_others(heap, Verb::Keys, &["KEYS 0", "KEYS 0 1 2"]));
+    assert!(rt; want_others(heap, Verb::State, &["STATE 0"]));
 }
 
 // A partition, in the order in which its word has the numbers.
@@ -126,82 +134,56 @@ fn starts(rt: HostRuntime) -> Result<(), Fail> {
         pages: 33,
         partitions: vec![in heap; partition(8, 24, 1), partition(32, 1, 2)]?,
     };
-    let line = b"IPL partition=8,24,1 pages=33 frames=5 partition=X'20',1,2 supervisor=2";
-    assert_eq!(rt; parse(heap, line), Ok(Some(Command::Ipl(worked))));
+    let line = "IPL partition=8,24,1 pages=33 frames=5 partition=X'20',1,2 supervisor=2";
+    assert!(rt; writes(heap, line, &Command::Ipl(worked)));
+    Ok(())
+}
+
+#[test]
+fn starts_of_nothing(rt: HostRuntime) {
+    let heap = rt.alloc();
     let nothing = Start {
         frames: 0,
         supervisor: 0,
         pages: 0,
         partitions: Vec::new(heap),
     };
-    assert_eq!(rt; parse(heap, b"IPL"), Ok(Some(Command::Ipl(nothing))));
-    Ok(())
+    assert!(rt; writes(heap, "IPL", &Command::Ipl(nothing)));
 }
 
 #[test]
-fn starts_at_their_edges(rt: HostRuntime) -> Result<(), Fail> {
+fn starts_with_six(rt: HostRuntime) -> Result<(), Fail> {
     let heap = rt.alloc();
     let six = Start {
         frames: u32::MAX,
         supervisor: 0,
         pages: 0,
-        partitions: vec![in heap; partition(u32::MAX, u32::MAX, 255); 6]?,
+        partitions: vec![in heap; partition(1, u32::MAX, 255); 6]?,
     };
-    let line =
-        b"IPL frames=4294967295 partition=4294967295,4294967295,255 partition=4294967295,4294967295,255 partition=4294967295,4294967295,255 partition=4294967295,4294967295,255 partition=4294967295,4294967295,255 partition=4294967295,4294967295,255";
-    assert_eq!(rt; parse(heap, line), Ok(Some(Command::Ipl(six))));
+    let one = "partition=1,4294967295,255";
+    let line = format!(in heap; "IPL {one} {one} {one} frames=4294967295 {one} {one} {one}")?;
+    assert!(rt; writes(heap, line.as_str(), &Command::Ipl(six)));
     Ok(())
 }
 
 #[test]
 fn wrong_starts(rt: HostRuntime) {
     let heap = rt.alloc();
-    assert_eq!(rt;
-        parse(heap, b"IPL frames=5 frames=5"),
-        Err(Wrong::Twice(Verb::Ipl))
-    );
-    assert_eq!(rt;
-        parse(heap, b"IPL pages=0 pages=0"),
-        Err(Wrong::Twice(Verb::Ipl))
-    );
-    assert_eq!(rt;
-        parse(heap, b"IPL frames=4294967296"),
-        Err(Wrong::Number(Verb::Ipl, LARGE))
-    );
-    assert_eq!(rt;
-        parse(heap, b"IPL supervisor="),
-        Err(Wrong::Number(Verb::Ipl, NONE))
-    );
-    assert_eq!(rt;
-        parse(heap, b"IPL frames"),
-        Err(Wrong::UnknownWord(Verb::Ipl))
-    );
-    assert_eq!(rt;
-        parse(heap, b"IPL slots=31"),
-        Err(Wrong::UnknownWord(Verb::Ipl))
-    );
-    assert_eq!(rt;
-        parse(heap, b"IPL partition=1,2"),
-        Err(Wrong::Arguments(Verb::Ipl))
-    );
-    assert_eq!(rt;
-        parse(heap, b"IPL partition=1"),
-        Err(Wrong::Arguments(Verb::Ipl))
-    );
-    assert_eq!(rt;
-        parse(heap, b"IPL partition=1,2,3,4"),
-        Err(Wrong::Number(Verb::Ipl, NONE))
-    );
-    assert_eq!(rt;
-        parse(heap, b"IPL partition=1,,3"),
-        Err(Wrong::Number(Verb::Ipl, NONE))
-    );
-    assert_eq!(rt;
-        parse(heap, b"IPL partition=1,2,256"),
-        Err(Wrong::Number(Verb::Ipl, LARGE))
-    );
-    assert_eq!(rt;
-        parse(heap, b"IPL partition=1,4294967296,3"),
-        Err(Wrong::Number(Verb::Ipl, LARGE))
-    );
+    let two = ["IPL partition=1", "IPL partition=1,2"];
+    assert!(rt; want_others(heap, Verb::Ipl, &two));
+    let four = [
+        "IPL partition=1,2,3,4",
+        "IPL partition=1,,3",
+        "IPL supervisor=",
+    ];
+    assert!(rt; are_no_numbers(heap, Verb::Ipl, &four));
+    let large = [
+        "IPL frames=4294967296",
+        "IPL partition=1,2,256",
+        "IPL partition=1,4294967296,3",
+    ];
+    assert!(rt; are_too_large(heap, Verb::Ipl, &large));
+    assert!(rt; is_wrong(heap, "IPL pages=0 pages=0", Wrong::Twice(Verb::Ipl)));
+    assert!(rt; is_wrong(heap, "IPL slots=31", Wrong::UnknownWord(Verb::Ipl)));
+    assert!(rt; is_wrong(heap, "IPL frames", Wrong::UnknownWord(Verb::Ipl)));
 }
