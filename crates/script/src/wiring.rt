@@ -60,7 +60,7 @@ pub struct Wiring {
 }
 
 /// The words of WIRE that were met so far.
-#[derive(Default, Drop)]
+#[derive(Drop)]
 struct Words<'a> {
     policy: Option<Policy>,
     translator: Option<Translator>,
@@ -170,7 +170,13 @@ impl Wiring {
     pub fn of(heap: Global, words: &[&str]) -> Result<Wiring, Wrong>
         ensures { IfOk result (SaysWiring words.now) }
     {
-        let mut met = Words::default();
+        let mut met = Words {
+            policy: None,
+            translator: None,
+            kind: None,
+            slots: None,
+            file: None,
+        };
         for word in words {
             met.take_in(word)?;
         }
