@@ -1,5 +1,5 @@
 -- What a disturbed run promises.
-use Rattle.std.specs.Prelude.{◌≡◌, ℕ, List, [], ◌∷◌, ◌++◌, Ok, Err, vec_items, Result, Vec}
+use Rattle.std.specs.Prelude.{◌≡◌, ◌≤◌, ◌<◌, ℕ, List, [], ◌∷◌, ◌++◌, length, Ok, Err, vec_items, vec_capacity, Result, Vec}
 use Rattle.std.specs.declared.alloc.Global.{Global}
 use Rattle.model.specs.declared.calls.Reply.{Reply}
 use Rattle.model.specs.declared.calls.Call.{Call}
@@ -55,3 +55,10 @@ module _ {T P S : Type 0} (r : Parts T P S) where
   RanDisturbed c calls before after storage left (Ok v) = Steadily c (handing calls) before after (vec_items v) (storages_of left)
   RanDisturbed c calls before after storage left (Err (Refused why)) = ((ipl r c before).0 ≡ Err why) × (after storage ≡ before) × (left ≡ calls)
   RanDisturbed c calls before after storage left (Err Memory) = (after storage ≡ before) × (left ≡ calls)
+
+  -- the same where a list is handed in, which is to hold the answers: it is told exactly where it has no room for them, and
+  -- otherwise the run is begun; where it is not begun the list is as found too
+  abbrev pub RanDisturbedInto : Config → List Handed → World T P S → (List ℕ → World T P S) → List ℕ → List Handed → (old new : Vec (Result Reply Refusal) Global) → Result (Unit {0}) Stopped → Type 0
+  RanDisturbedInto c calls before after storage left old new (Ok _) = (length calls ≤ vec_capacity old) × Steadily c (handing calls) before after (vec_items new) (storages_of left)
+  RanDisturbedInto c calls before after storage left old new (Err (Refused why)) = (length calls ≤ vec_capacity old) × ((ipl r c before).0 ≡ Err why) × (after storage ≡ before) × (left ≡ calls) × (new ≡ old)
+  RanDisturbedInto c calls before after storage left old new (Err Memory) = (vec_capacity old < length calls) × (after storage ≡ before) × (left ≡ calls) × (new ≡ old)

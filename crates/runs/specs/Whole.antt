@@ -1,5 +1,5 @@
 -- What a whole run promises.
-use Rattle.std.specs.Prelude.{◌≡◌, List, [], ◌∷◌, ◌++◌, Ok, Err, vec_items, Result, Vec}
+use Rattle.std.specs.Prelude.{◌≡◌, ◌≤◌, ◌<◌, List, [], ◌∷◌, ◌++◌, length, Ok, Err, vec_items, vec_capacity, Result, Vec}
 use Rattle.std.specs.declared.alloc.Global.{Global}
 use Rattle.model.specs.declared.calls.Reply.{Reply}
 use Rattle.model.specs.declared.calls.Call.{Call}
@@ -41,3 +41,10 @@ module _ {T P S : Type 0} (r : Parts T P S) where
   Ran c calls before after (Ok v) = Lawfully c calls before after (vec_items v)
   Ran c calls before after (Err (Refused why)) = ((ipl r c before).0 ≡ Err why) × (after ≡ before)
   Ran c calls before after (Err Memory) = after ≡ before
+
+  -- the same where a list is handed in, which is to hold the answers: it is told exactly where it has no room for them, and
+  -- otherwise the run is begun; where it is not begun the list is as found too
+  abbrev pub RanInto : Config → List Call → World T P S → World T P S → (old new : Vec (Result Reply Refusal) Global) → Result (Unit {0}) Stopped → Type 0
+  RanInto c calls before after old new (Ok _) = (length calls ≤ vec_capacity old) × Lawfully c calls before after (vec_items new)
+  RanInto c calls before after old new (Err (Refused why)) = (length calls ≤ vec_capacity old) × ((ipl r c before).0 ≡ Err why) × (after ≡ before) × (new ≡ old)
+  RanInto c calls before after old new (Err Memory) = (vec_capacity old < length calls) × (after ≡ before) × (new ≡ old)

@@ -4,7 +4,7 @@ ghost use Rattle.layout.specs.Config.{config_with};
 ghost use Rattle.machine.specs.Machine.{Does, rules, world};
 ghost use Rattle.model.specs.Law.{LawOf};
 ghost use Rattle.model.specs.Steps.{byte_answer, done_answer, worked};
-ghost use Rattle.runs.specs.Whole.{Ran, Run};
+ghost use Rattle.runs.specs.Whole.{Ran, RanInto, Run};
 
 use crate::start::Start;
 use crate::stopped::Stopped;
@@ -64,8 +64,30 @@ fn make_all<T: Translator, P: Policy, S: PageStore>(
     }
 }
 
-/// IPL and then the calls, one after another: their answers. They are the flat machine's, for every list of calls and
-/// whatever the three parts are.
+/// IPL and then the calls, one after another. `answers` then holds their answers alone, for which it has to have room. They
+/// are the flat machine's, for every list of calls and whatever the three parts are.
+pub fn work_into<T: Translator, P: Policy, S: PageStore>(
+    machine: &mut Machine<T, P, S>,
+    storage: &mut [u8],
+    start: Start,
+    calls: &[Call],
+    answers: &mut Vec<Answer>,
+) -> Result<(), Stopped>
+    ensures run { RanInto (rules T.Translator P.Policy S.PageStore) (config_with start.entry.sizes start.entry.partitions.now) calls.now (world T.Translator P.Policy S.PageStore machine.old storage.old) (world T.Translator P.Policy S.PageStore machine.new storage.new) answers.old answers.new result }
+    ensures law { LawOf (rules T.Translator P.Policy S.PageStore) }
+{
+    if answers.capacity() < calls.len() {
+        return Err(Stopped::Memory);
+    }
+    if let Err(why) = machine.ipl(storage, start.sizes, start.partitions) {
+        return Err(Stopped::Refused(why));
+    }
+    answers.clear();
+    make_all(machine, storage, calls, answers);
+    Ok(())
+}
+
+/// IPL and then the calls, one after another: their answers, in a list of their own.
 pub fn work<T: Translator, P: Policy, S: PageStore>(
     machine: &mut Machine<T, P, S>,
     storage: &mut [u8],
@@ -79,9 +101,6 @@ pub fn work<T: Translator, P: Policy, S: PageStore>(
     let Ok(mut answers) = Vec::with_capacity(heap, calls.len()) else {
         return Err(Stopped::Memory);
     };
-    if let Err(why) = machine.ipl(storage, start.sizes, start.partitions) {
-        return Err(Stopped::Refused(why));
-    }
-    make_all(machine, storage, calls, &mut answers);
+    work_into(machine, storage, start, calls, &mut answers)?;
     Ok(answers)
 }

@@ -1,16 +1,15 @@
-use Rattle.std.proofs.Common.{refl}
+use Rattle.std.proofs.Common.{refl, arith}
 use Rattle.layout.specs.Config.{config_with}
 use Rattle.machine.specs.Machine.{rules, world}
 use Rattle.model.proofs.Runs.{law_of}
 use Rattle.model.specs.World.{LawfulParts}
 use Rattle.runs.proofs.Playing.{lawfully, not_begun}
-use Rattle.runs.proofs.whole.work.Goals as goal
+use Rattle.runs.proofs.whole.work_into.Goals as goal
 
-pub returns-in_default : goal.returns-in_default
-returns-in_default g c =
-    let r = rules g.T.Translator g.P.Policy g.S.PageStore in
-    let law : LawfulParts r = record { translator = g.met.T.Translator.lawful; policy = g.met.P.Policy.lawful; store = g.met.S.PageStore.lawful } in
-    record { run = refl; law = law_of r law }
+pub returns-then-capacity-calls-clause-law : goal.returns-then-capacity-calls-clause-law
+returns-then-capacity-calls-clause-law g c =
+    law_of (rules g.T.Translator g.P.Policy g.S.PageStore)
+    (record { translator = g.met.T.Translator.lawful; policy = g.met.P.Policy.lawful; store = g.met.S.PageStore.lawful })
 
 pub returns-in-Err : goal.returns-in-Err
 returns-in-Err g c =
@@ -18,7 +17,7 @@ returns-in-Err g c =
     let law : LawfulParts r = record { translator = g.met.T.Translator.lawful; policy = g.met.P.Policy.lawful; store = g.met.S.PageStore.lawful } in
     let found = world g.T.Translator g.P.Policy g.S.PageStore c.args.machine.now c.args.storage.now in
     let given = config_with c.args.start.sizes c.args.start.partitions.now in
-    record { run = (not_begun r given found _ c.in-Err.why c.in-Err.ensures.rule, c.in-Err.ensures.refused); law = law_of r law }
+    record { run = (omega arith, not_begun r given found _ c.in-Err.why c.in-Err.ensures.rule, c.in-Err.ensures.refused, refl); law = law_of r law }
 
 pub returns : goal.returns
 returns g c =
@@ -28,8 +27,11 @@ returns g c =
     let found = world g.T.Translator g.P.Policy g.S.PageStore c.args.machine.now c.args.storage.now in
     let given = config_with c.args.start.sizes c.args.start.partitions.now in
     record {
-      run = lawfully r law given c.args.calls.now found _ _
+      run = (
+          omega arith,
+          lawfully r law given c.args.calls.now found _ _
           (record { translator = g.met.T.Translator.valid own.translator; policy = g.met.P.Policy.valid own.policy; store = g.met.S.PageStore.valid own.store })
-          _ _ c.in_default-ipl.ensures.rule c.in-Ok.ensures.items c.make_all.ensures;
+          _ _ c.in_default.ensures.rule c.clear.ensures.items c.make_all.ensures
+        );
       law = law_of r law;
     }
