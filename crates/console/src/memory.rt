@@ -4,7 +4,9 @@ ghost use Rattle.std.specs.Option.{unwrap_or};
 ghost use Rattle.storage.specs.Bytes.{fits};
 ghost use Rattle.tables.specs.Walk.{walk as walk_of};
 ghost use Rattle.console.specs.Answers.{alter_answer, Displays, ShowsControls, walked};
+ghost use Rattle.console.specs.declared.answer.Answer.TheVariants.{Done};
 ghost use Rattle.listing.specs.Memory.{Altered};
+ghost use Rattle.script.specs.declared.verb.Verb.TheVariants.{Storage};
 
 use crate::answer::Answer;
 use crate::board::Board;
@@ -20,6 +22,7 @@ use tables::{Controls, Refusal, walk};
 impl<T: ShowPairs, P: ShowFrames, S: Marked> Board<T, P, S> {
     /// STORAGE: main storage anew, of so many zero bytes.
     pub fn make_storage(&mut self, heap: Global, bytes: u32) -> Result<Answer, AllocError>
+        ensures answer { IfOk result (λ answer. answer ≡ Done Storage) }
         ensures after { MatchResult result (λ _. self.new.storage.items ≡ replicate bytes 0) (λ _. self.new.storage ≡ self.old.storage) }
         ensures sized { MatchResult result (λ _. self.new.sized ≡ true) (λ _. self.new.sized ≡ self.old.sized) }
         ensures kept { self.new.machine ≡ self.old.machine }

@@ -1,6 +1,7 @@
 //! The page stores that a board is wired with.
-ghost use Rattle.std.specs.Prelude.{◌≡◌, ◌*◌, ◌≤◌, replicate, IfOk};
-ghost use Rattle.dataset.specs.Format.{blank_set};
+ghost use Rattle.std.specs.Prelude.{◌≡◌, ◌*◌, ◌<◌, ◌≤◌, replicate, Err, IfOk};
+ghost use Rattle.dataset.specs.Format.{blank_set, opened};
+ghost use Rattle.dataset.specs.declared.refusal.OpenRefusal.TheVariants.{TooManySlots};
 
 use area::PlainArea;
 use dataset::data_set::DataSet;
@@ -17,7 +18,8 @@ pub fn plain(heap: Global, slots: u32) -> Result<PlainArea, AllocError>
 
 /// A page data set of so many blank slots. One of more slots than a data set may have is refused when it is opened.
 pub fn blank(heap: Global, slots: u32) -> Result<DataSet, AllocError>
-    ensures { IfOk result (λ s. slots ≤ 8192 → s.items ≡ blank_set slots) }
+    ensures blank { IfOk result (λ s. slots ≤ 8192 → s.items ≡ blank_set slots) }
+    ensures refused { IfOk result (λ s. 8192 < slots → opened s.items ≡ Err TooManySlots) }
 {
     match DataSet::blank(heap, slots) {
         Ok(set) => Ok(set),

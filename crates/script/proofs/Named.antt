@@ -1,11 +1,13 @@
 -- Words of the form name=value: which value a word has for a name, and what is said once.
-use Rattle.std.proofs.Common.{◌≡◌, ℕ, ◌+◌, ◌<◌, ◌≤◌, List, [], ◌∷◌, ◌++◌, length, get_or, take, Option, Some, None, Ok, Err, Result, Bor, OnOk, append-nil, refl, ap, ◌∙◌, inl, inr, lit<}
+use Rattle.std.proofs.Common.{◌≡◌, ℕ, ◌+◌, ◌<◌, ◌≤◌, List, [], ◌∷◌, ◌++◌, length, get_or, take, Option, Some, None, Ok, Err, Result, Bor, OnOk, true, append-nil, refl, ap, ◌∙◌, inl, inr, lit<}
 use Rattle.std.specs.Option.{unwrap_or}
 use Rattle.std.specs.List.{AllZip, cons_option}
 use Rattle.std.proofs.lemmas.List.{take_all, take_more}
-use Rattle.std.proofs.lemmas.List.Elements.{filter_map-append}
+use Rattle.std.proofs.lemmas.List.Elements.{All-push, filter_map-append}
 use Rattle.std.proofs.lemmas.Str.Pattern.{IsSplitOnceResult, split_parts}
-use Rattle.script.specs.Said.{Appends, AtMostOnce, OnceOrZero, Takes, value_for, values}
+use Rattle.script.specs.Commands.{WritesBytes}
+use Rattle.script.specs.Numbers.{Writes}
+use Rattle.script.specs.Said.{AllNamed, Appends, AtMostOnce, has_name, OnceOrZero, Takes, value_for, values}
 
 -- What stands in front of the = and behind it.
 pub cut : (word : List ℕ) (r : Option (Bor (List ℕ) × Bor (List ℕ))) (x : Bor (List ℕ) × Bor (List ℕ)) (name : List ℕ)
@@ -50,7 +52,8 @@ pub once_or_zero : (Says : List ℕ → ℕ → Type 0) (texts : List (List ℕ)
 once_or_zero Says texts None h = inl (h, refl)
 once_or_zero Says texts (Some n) h = inr h
 
-all_zip_push : {A B : Type 0} (R : A → B → Type 0) (xs : List A) (ys : List B) (x : A) (y : B) → AllZip R xs ys → R x y → AllZip R (xs ++ x ∷ []) (ys ++ y ∷ [])
+-- Two lists that go together, with one more in each.
+pub all_zip_push : {A B : Type 0} (R : A → B → Type 0) (xs : List A) (ys : List B) (x : A) (y : B) → AllZip R xs ys → R x y → AllZip R (xs ++ x ∷ []) (ys ++ y ∷ [])
 all_zip_push R [] [] x y h r = (r, tt)
 all_zip_push R [] (b ∷ ys) x y h r = absurd h
 all_zip_push R (a ∷ xs) [] x y h r = absurd h
@@ -77,3 +80,25 @@ said_all Says name words i held all h = rw (take_all i words all) at h
 pub appended_all : {A : Type 0} (Says : List ℕ → A → Type 0) (name : List ℕ) (words : List (Bor (List ℕ))) (i : ℕ) (had : List A)
     → length words ≤ i → AllZip Says (values name (take i words)) had → AllZip Says (values name words) had
 appended_all Says name words i had all h = rw (take_all i words all) at h
+
+-- A word of one of some names.
+pub is_named : {E : Type 0} (names : List (List ℕ)) (r : Result (Unit {0}) E) (word text : List ℕ) → word ≡ text → has_name names text ≡ true
+    → OnOk r (has_name names word ≡ true)
+is_named names (Ok u) word text e h = rw e h
+is_named names (Err why) word text e h = tt
+
+-- Words of some names, with one word more.
+pub named_more : (names : List (List ℕ)) (words : List (Bor (List ℕ))) (i : ℕ) (d : Bor (List ℕ)) → i < length words
+    → AllNamed names (take i words) → has_name names (get_or words i d).now ≡ true → AllNamed names (take (i + 1) words)
+named_more names words i d lt had h =
+    rw (take_more words i d lt) (All-push (λ (w : Bor (List ℕ)). has_name names w.now ≡ true) (take i words) (get_or words i d) had h)
+
+-- All words have one of some names, when all were met.
+pub named_all : (names : List (List ℕ)) (words : List (Bor (List ℕ))) (i : ℕ) → length words ≤ i → AllNamed names (take i words) → AllNamed names words
+named_all names words i all h = rw (take_all i words all) at h
+
+-- Words that write bytes, with one word more.
+pub bytes_more : (words : List (Bor (List ℕ))) (i : ℕ) (d : Bor (List ℕ)) (old new : List ℕ) (byte : ℕ) → i < length words
+    → WritesBytes (take i words) old → Writes (get_or words i d).now byte → new ≡ old ++ byte ∷ [] → WritesBytes (take (i + 1) words) new
+bytes_more words i d old new byte lt had h e =
+    rw (take_more words i d lt, e) (all_zip_push (λ (w : Bor (List ℕ)) n. Writes w.now n) (take i words) old (get_or words i d) byte had h)

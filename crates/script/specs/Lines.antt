@@ -1,9 +1,10 @@
 -- Lines: what stands in front of a comment, the first word, and the command that a line writes.
-use Rattle.std.specs.Prelude.{◌≡◌, ◌≢◌, ℕ, ◌<◌, ◌⊎◌, true, List, ◌++◌, length, take, Ok, Err, None, Option, Result, IfOk, IsSomeAnd, slice_index}
+use Rattle.std.specs.Prelude.{◌≡◌, ◌≢◌, ℕ, ◌<◌, ◌⊎◌, true, List, [], ◌∷◌, ◌++◌, length, take, Ok, Err, None, Option, Result, IfOk, IsSomeAnd, slice_index}
 use Rattle.std.specs.Char.{is_ascii_whitespace}
 use Rattle.std.specs.List.{AllPass}
 use Rattle.std.specs.Str.{IsUtf8, NoCharPasses}
-use Rattle.script.specs.Commands.{verb_of}
+use Rattle.std.proofs.Common.{Bor}
+use Rattle.script.specs.Commands.{Says, verb_of}
 use Rattle.script.specs.Verbs.{spelled}
 use Rattle.script.specs.declared.command.Command.{Command}
 use Rattle.script.specs.declared.verb.Verb.{Verb}
@@ -26,17 +27,27 @@ pub record IsFirstWord (text word : List ℕ) : Type 0 where
   pub plain : NoCharPasses is_ascii_whitespace word
   pub ends : 0 < length rest → is_ascii_whitespace (slice_index rest 0) ≡ true
 
--- The answer to a line by its first word: a command of the verb that it spells, or that it is no command.
-abbrev pub Calls : List ℕ → Result (Option Command) Wrong → Type 0
-Calls word r =
-    ((v : Verb) × (spelled v ≡ word) × IfOk r (λ o. IsSomeAnd o (λ c. verb_of c ≡ v)))
+-- The words of a text, in their order: each is the first of what is left, and behind the last one is white space alone.
+abbrev pub AreWords : List ℕ → List (Bor (List ℕ)) → Type 0
+AreWords text [] = AllPass is_ascii_whitespace text
+AreWords text (w ∷ ws) = (first : IsFirstWord text w.now) × AreWords first.rest ws
+
+-- A command of a verb, which says what the words of a text say.
+abbrev pub IsCommandOf : Verb → List ℕ → Command → Type 0
+IsCommandOf v behind c = (verb_of c ≡ v) × ((words : List (Bor (List ℕ))) × AreWords behind words × Says words c)
+
+-- The answer to a line by its first word and what stands behind it: a command of the verb that the word spells, or that it
+-- is no command.
+abbrev pub Calls : List ℕ → List ℕ → Result (Option Command) Wrong → Type 0
+Calls word behind r =
+    ((v : Verb) × (spelled v ≡ word) × IfOk r (λ o. IsSomeAnd o (IsCommandOf v behind)))
     ⊎ (((v : Verb) → spelled v ≢ word) × (r ≡ Err NoCommand))
 
 -- The answer to a line by its text: that it is none, nothing where it has no word, or what its first word calls.
 abbrev pub ParsesText : List ℕ → Result (Option Command) Wrong → Type 0
 ParsesText text r =
     (¬ IsUtf8 text × (r ≡ Err NotText))
-    ⊎ ((AllPass is_ascii_whitespace text × (r ≡ Ok None)) ⊎ ((word : List ℕ) × IsFirstWord text word × Calls word r))
+    ⊎ ((AllPass is_ascii_whitespace text × (r ≡ Ok None)) ⊎ ((word : List ℕ) × (first : IsFirstWord text word) × Calls word first.rest r))
 
 -- The answer to a line, by its text in front of the comment.
 abbrev pub Parses : List ℕ → Result (Option Command) Wrong → Type 0

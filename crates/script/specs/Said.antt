@@ -1,6 +1,6 @@
 -- Words of the form name=value, and what the words of a name say.
-use Rattle.std.specs.Prelude.{◌≡◌, ℕ, ◌+◌, if◌then◌else◌, List, [], ◌∷◌, ◌++◌, length, drop, ◌⊎◌, Option, Some, None, IsSomeAnd, MatchOption, nat_eq}
-use Rattle.std.specs.List.{filter_map, starts_with}
+use Rattle.std.specs.Prelude.{◌≡◌, ℕ, ◌+◌, Bool, true, false, ◌||◌, if◌then◌else◌, List, [], ◌∷◌, ◌++◌, length, drop, ◌⊎◌, Option, Some, None, IsSomeAnd, MatchOption, nat_eq}
+use Rattle.std.specs.List.{All, filter_map, starts_with}
 use Rattle.std.proofs.Common.{Bor}
 
 -- The value of a word name=value, where its name is this one.
@@ -10,6 +10,15 @@ value_for name word = if starts_with nat_eq word (name ++ 61 ∷ []) then Some (
 -- The values of all words of a name, in their order.
 abbrev pub values : List ℕ → List (Bor (List ℕ)) → List (List ℕ)
 values name words = filter_map (λ w. value_for name w.now) words
+
+-- Whether a word is name=value with one of some names.
+abbrev pub has_name : List (List ℕ) → List ℕ → Bool
+has_name [] word = false
+has_name (name ∷ names) word = starts_with nat_eq word (name ++ 61 ∷ []) || has_name names word
+
+-- Each word has one of some names: none is left aside.
+abbrev pub AllNamed : List (List ℕ) → List (Bor (List ℕ)) → Type 0
+AllNamed names words = All (λ w. has_name names w.now ≡ true) words
 
 -- There is one value, and it says x.
 abbrev pub Once : {A : Type 0} → (List ℕ → A → Type 0) → List (List ℕ) → A → Type 0

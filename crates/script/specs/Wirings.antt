@@ -1,8 +1,8 @@
 -- What the words of WIRE say.
-use Rattle.std.specs.Prelude.{◌≡◌, ℕ, ◌≤◌, List, [], Option, Some, None, String, codes, string_bytes}
+use Rattle.std.specs.Prelude.{◌≡◌, ℕ, ◌≤◌, List, [], ◌∷◌, Option, Some, None, String, codes, string_bytes}
 use Rattle.std.proofs.Common.{Bor}
 use Rattle.script.specs.Numbers.{Writes}
-use Rattle.script.specs.Said.{Once, values}
+use Rattle.script.specs.Said.{AllNamed, Once, values}
 use Rattle.script.specs.Words.{kind_word, policy_word, translator_word}
 use Rattle.script.specs.declared.wiring.Kind.{Kind}
 use Rattle.script.specs.declared.wiring.Source.{Source}
@@ -38,8 +38,13 @@ SaysSource kinds slots files (Plain n) = Once (Spells kind_word) kinds Kind.Plai
 SaysSource kinds slots files (Blank n) = Once (Spells kind_word) kinds Kind.DataSet × Once WritesSlots slots n × (files ≡ [])
 SaysSource kinds slots files (File path) = Once (Spells kind_word) kinds Kind.DataSet × (slots ≡ []) × Once Names files path
 
--- Words of WIRE say a wiring: policy and translator once each, and a source of the pages.
+-- The names of WIRE's words.
+abbrev pub wire_names : List (List ℕ)
+wire_names = codes "policy" ∷ codes "translator" ∷ codes "store" ∷ codes "slots" ∷ codes "file" ∷ []
+
+-- Words of WIRE say a wiring: each has one of its names, with policy and translator once each, and a source of the pages.
 pub record SaysWiring (words : List (Bor (List ℕ))) (wiring : Wiring) : Type 0 where
+  pub known : AllNamed wire_names words
   pub policy : Once (Spells policy_word) (values (codes "policy") words) wiring.policy
   pub translator : Once (Spells translator_word) (values (codes "translator") words) wiring.translator
   pub source : SaysSource (values (codes "store") words) (values (codes "slots") words) (values (codes "file") words) wiring.source

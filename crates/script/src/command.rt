@@ -61,10 +61,12 @@ fn alter(heap: Global, words: &[&str]) -> Result<Command, Wrong>
         return Err(Wrong::Arguments(Verb::Alter));
     };
     let address = word_of(Verb::Alter, address)?;
-    let bytes = words[1..]
-        .iter()
-        .map(|word| byte_of(Verb::Alter, word))
-        .try_collect(heap)?;
+    let rest = &words[1..];
+    // Not `try_collect`: what it gives would have to be proved of each adapter of the chain.
+    let mut bytes = Vec::new(heap);
+    for word in rest {
+        bytes.push(byte_of(Verb::Alter, word)?)?;
+    }
     Ok(Command::Alter(address, bytes))
 }
 

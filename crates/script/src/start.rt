@@ -1,8 +1,8 @@
 //! What IPL starts a machine with, and the words of IPL that say it.
-ghost use Rattle.std.specs.Prelude.{IfOk, OnOk, codes};
+ghost use Rattle.std.specs.Prelude.{◌≡◌, true, IfOk, OnOk, codes};
 ghost use Rattle.script.specs.Numbers.{Writes};
-ghost use Rattle.script.specs.Said.{Appends, Takes, value_for};
-ghost use Rattle.script.specs.Starts.{SaysStart, WritesPartition};
+ghost use Rattle.script.specs.Said.{Appends, has_name, Takes, value_for};
+ghost use Rattle.script.specs.Starts.{SaysStart, start_names, WritesPartition};
 
 use crate::number::{byte_of, word_of};
 use crate::verb::Verb;
@@ -45,6 +45,7 @@ fn partition(value: &str) -> Result<Partition, Wrong>
 impl Words {
     // Takes in one word of IPL.
     fn take_in(&mut self, word: &str) -> Result<(), Wrong>
+        ensures known { OnOk result (has_name start_names word.now ≡ true) }
         ensures frames { OnOk result (Takes Writes (value_for (codes "frames") word.now) self.old.frames self.new.frames) }
         ensures supervisor { OnOk result (Takes Writes (value_for (codes "supervisor") word.now) self.old.supervisor self.new.supervisor) }
         ensures pages { OnOk result (Takes Writes (value_for (codes "pages") word.now) self.old.pages self.new.pages) }

@@ -1,7 +1,7 @@
 //! What a board is wired from, and the words of WIRE that say it.
-ghost use Rattle.std.specs.Prelude.{◌≡◌, IfOk, OnOk, codes};
-ghost use Rattle.script.specs.Said.{Takes, value_for};
-ghost use Rattle.script.specs.Wirings.{Chosen, IsHeld, SaysWiring, Spells, WritesSlots};
+ghost use Rattle.std.specs.Prelude.{◌≡◌, true, IfOk, OnOk, codes};
+ghost use Rattle.script.specs.Said.{has_name, Takes, value_for};
+ghost use Rattle.script.specs.Wirings.{Chosen, IsHeld, SaysWiring, Spells, wire_names, WritesSlots};
 ghost use Rattle.script.specs.Words.{IsUnknown, kind_word, policy_word, Reads, translator_word};
 
 use crate::number::limited;
@@ -129,6 +129,7 @@ impl FromStr for Kind {
 impl<'a> Words<'a> {
     // Takes in one word of WIRE.
     fn take_in(&mut self, word: &'a str) -> Result<(), Wrong>
+        ensures known { OnOk result (has_name wire_names word.now ≡ true) }
         ensures policy { OnOk result (Takes (Spells policy_word) (value_for (codes "policy") word.now) self.old.policy self.new.policy) }
         ensures translator { OnOk result (Takes (Spells translator_word) (value_for (codes "translator") word.now) self.old.translator self.new.translator) }
         ensures kind { OnOk result (Takes (Spells kind_word) (value_for (codes "store") word.now) self.old.kind self.new.kind) }

@@ -1,7 +1,8 @@
-use Rattle.std.proofs.Common.{codes, ap}
+use Rattle.std.proofs.Common.{codes, refl, ap}
 use Rattle.script.specs.Numbers.{Writes}
 use Rattle.script.specs.Said.{value_for}
-use Rattle.script.proofs.Named.{cut, takes_first, takes_none}
+use Rattle.script.specs.Starts.{start_names}
+use Rattle.script.proofs.Named.{cut, is_named, takes_first, takes_none}
 use Rattle.script.proofs.start.Words.take_in.Goals as goal
 
 pub returns-in_ok-word_of-in-frames-clause-frames : goal.returns-in_ok-word_of-in-frames-clause-frames
@@ -23,3 +24,11 @@ pub returns-in_ok-push-in-partition-clause-pages : goal.returns-in_ok-push-in-pa
 returns-in_ok-push-in-partition-clause-pages c =
     let e = cut c.args.word.now _ _ (codes "partition") c.split_once.ensures.cases c.in_ok-name.ensures.ok_part c.in-partition.is in
     takes_none Writes _ _ (ap (value_for (codes "pages")) e)
+
+pub returns-in_ok-word_of-in-frames-clause-known : goal.returns-in_ok-word_of-in-frames-clause-known
+returns-in_ok-word_of-in-frames-clause-known c =
+    is_named start_names _ _ _ (cut c.args.word.now _ _ (codes "frames") c.split_once.ensures.cases c.in_ok-name.ensures.ok_part c.in-frames.is) refl
+
+pub returns-in_ok-word_of-in-supervisor-clause-known : goal.returns-in_ok-word_of-in-supervisor-clause-known
+returns-in_ok-word_of-in-supervisor-clause-known c =
+    is_named start_names _ _ _ (cut c.args.word.now _ _ (codes "supervisor") c.split_once.ensures.cases c.in_ok-name.ensures.ok_part c.in-supervisor.is) refl
