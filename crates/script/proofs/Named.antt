@@ -1,5 +1,5 @@
 -- Words of the form name=value: which value a word has for a name, and what is said once.
-use Rattle.std.proofs.Common.{◌≡◌, ℕ, ◌+◌, ◌<◌, ◌≤◌, List, [], ◌∷◌, ◌++◌, length, get_or, take, Option, Some, None, Ok, Err, Result, Bor, OnOk, append-nil, refl, ap, ◌∙◌, inl, inr, lit<}
+use Rattle.std.proofs.Common.{◌≡◌, ℕ, ◌+◌, ◌<◌, ◌≤◌, List, [], ◌∷◌, ◌++◌, length, get_or, take, Option, Some, None, Ok, Err, Result, MatchResult, Bor, OnOk, append-nil, refl, ap, ◌∙◌, inl, inr, lit<}
 use Rattle.std.specs.Option.{unwrap_or}
 use Rattle.std.specs.List.{AllZip, cons_option}
 use Rattle.std.proofs.lemmas.List.{take_all, take_more}
@@ -15,10 +15,10 @@ cut word r x name split is named =
     parts.0 ∙ ap (λ n. n ++ (61 ∷ x.1.now)) named
 
 -- The first value of a name is held.
-pub takes_first : {A : Type 0} {E : Type 0} (Says : List ℕ → A → Type 0) (r : Result (Unit {0}) E) (word : Option (List ℕ)) (old new : Option A)
-    (text : List ℕ) (x : A) → word ≡ Some text → OnOk r ((old ≡ None) × (new ≡ Some x)) → Says text x → OnOk r (Takes Says word old new)
-takes_first Says (Ok u) word old new text x e h s = rw (e, h.1) (h.0, s)
-takes_first Says (Err why) word old new text x e h s = tt
+pub takes_first : {A : Type 0} {E : Type 0} (Says : List ℕ → A → Type 0) (r : Result (Unit {0}) E) (Q : E → Type 0) (word : Option (List ℕ)) (old new : Option A)
+    (text : List ℕ) (x : A) → word ≡ Some text → MatchResult r (λ _. (old ≡ None) × (new ≡ Some x)) Q → Says text x → OnOk r (Takes Says word old new)
+takes_first Says (Ok u) Q word old new text x e h s = rw (e, h.1) (h.0, s)
+takes_first Says (Err why) Q word old new text x e h s = tt
 
 -- A word of another name.
 pub takes_none : {A : Type 0} (Says : List ℕ → A → Type 0) (word : Option (List ℕ)) (old : Option A) → word ≡ None → Takes Says word old old

@@ -1,6 +1,7 @@
 //! Lines and the commands that they write.
-ghost use Rattle.std.specs.Prelude.{◌≡◌, ℕ, IfOk};
+ghost use Rattle.std.specs.Prelude.{◌≡◌, ℕ, ◌⊎◌, IfErr, IfOk, MatchResult};
 ghost use Rattle.script.specs.Commands.{Says, verb_of};
+ghost use Rattle.script.specs.Faults.{Faulty, IsMisread, NoByte, NoWord};
 ghost use Rattle.script.specs.Lines.{IsUncommented, Parses};
 ghost use Rattle.script.specs.Numbers.{Writes};
 
@@ -56,6 +57,7 @@ pub fn uncommented(line: &[u8]) -> &[u8]
 fn alter(heap: Global, words: &[&str]) -> Result<Command, Wrong>
     ensures called { IfOk result (λ c. verb_of c ≡ Verb.Alter) }
     ensures says { IfOk result (Says words.now) }
+    ensures faulty { IfErr result (Faulty Verb.Alter words.now) }
 {
     let [address, _, ..] = words else {
         return Err(Wrong::Arguments(Verb::Alter));
@@ -71,7 +73,7 @@ fn alter(heap: Global, words: &[&str]) -> Result<Command, Wrong>
 // WALK address cr0 cr1
 fn walk_by(address: &str, cr0: &str, cr1: &str) -> Result<Command, Wrong>
     ensures called { IfOk result (λ c. verb_of c ≡ Verb.Walk) }
-    ensures says { IfOk result (λ c. (a : ℕ) × (x : ℕ) × (y : ℕ) × (c ≡ Command.Walk a (Some (record { cr0 = x; cr1 = y }))) × Writes address.now a × Writes cr0.now x × Writes cr1.now y) }
+    ensures says { MatchResult result (λ c. (a : ℕ) × (x : ℕ) × (y : ℕ) × (c ≡ Command.Walk a (Some (record { cr0 = x; cr1 = y }))) × Writes address.now a × Writes cr0.now x × Writes cr1.now y) (IsMisread Verb.Walk (λ why. NoWord address.now why ⊎ (NoWord cr0.now why ⊎ NoWord cr1.now why))) }
 {
     let address = word_of(Verb::Walk, address)?;
     let cr0 = word_of(Verb::Walk, cr0)?;
@@ -83,6 +85,7 @@ fn walk_by(address: &str, cr0: &str, cr1: &str) -> Result<Command, Wrong>
 fn walk(words: &[&str]) -> Result<Command, Wrong>
     ensures called { IfOk result (λ c. verb_of c ≡ Verb.Walk) }
     ensures says { IfOk result (Says words.now) }
+    ensures faulty { IfErr result (Faulty Verb.Walk words.now) }
 {
     match words {
         [address] => Ok(Command::Walk(word_of(Verb::Walk, address)?, None)),
@@ -94,7 +97,7 @@ fn walk(words: &[&str]) -> Result<Command, Wrong>
 // MARK slot value
 fn mark(slot: &str, value: &str) -> Result<Command, Wrong>
     ensures called { IfOk result (λ c. verb_of c ≡ Verb.Mark) }
-    ensures says { IfOk result (λ c. (s : ℕ) × (v : ℕ) × (c ≡ Command.Mark s v) × Writes slot.now s × Writes value.now v) }
+    ensures says { MatchResult result (λ c. (s : ℕ) × (v : ℕ) × (c ≡ Command.Mark s v) × Writes slot.now s × Writes value.now v) (IsMisread Verb.Mark (λ why. NoWord slot.now why ⊎ NoByte value.now why)) }
 {
     Ok(Command::Mark(word_of(Verb::Mark, slot)?, byte_of(Verb::Mark, value)?))
 }
@@ -102,7 +105,7 @@ fn mark(slot: &str, value: &str) -> Result<Command, Wrong>
 // DISPLAY address count
 fn display(address: &str, count: &str) -> Result<Command, Wrong>
     ensures called { IfOk result (λ c. verb_of c ≡ Verb.Display) }
-    ensures says { IfOk result (λ c. (a : ℕ) × (n : ℕ) × (c ≡ Command.Display a n) × Writes address.now a × Writes count.now n) }
+    ensures says { MatchResult result (λ c. (a : ℕ) × (n : ℕ) × (c ≡ Command.Display a n) × Writes address.now a × Writes count.now n) (IsMisread Verb.Display (λ why. NoWord address.now why ⊎ NoWord count.now why)) }
 {
     Ok(Command::Display(
         word_of(Verb::Display, address)?,
@@ -113,7 +116,7 @@ fn display(address: &str, count: &str) -> Result<Command, Wrong>
 // LOAD address key
 fn load(address: &str, key: &str) -> Result<Command, Wrong>
     ensures called { IfOk result (λ c. verb_of c ≡ Verb.Load) }
-    ensures says { IfOk result (λ c. (a : ℕ) × (k : ℕ) × (c ≡ Command.Load a k) × Writes address.now a × Writes key.now k) }
+    ensures says { MatchResult result (λ c. (a : ℕ) × (k : ℕ) × (c ≡ Command.Load a k) × Writes address.now a × Writes key.now k) (IsMisread Verb.Load (λ why. NoWord address.now why ⊎ NoByte key.now why)) }
 {
     Ok(Command::Load(word_of(Verb::Load, address)?, byte_of(Verb::Load, key)?))
 }
@@ -121,7 +124,7 @@ fn load(address: &str, key: &str) -> Result<Command, Wrong>
 // STORE address key byte
 fn store(address: &str, key: &str, byte: &str) -> Result<Command, Wrong>
     ensures called { IfOk result (λ c. verb_of c ≡ Verb.Store) }
-    ensures says { IfOk result (λ c. (a : ℕ) × (k : ℕ) × (b : ℕ) × (c ≡ Command.Store a k b) × Writes address.now a × Writes key.now k × Writes byte.now b) }
+    ensures says { MatchResult result (λ c. (a : ℕ) × (k : ℕ) × (b : ℕ) × (c ≡ Command.Store a k b) × Writes address.now a × Writes key.now k × Writes byte.now b) (IsMisread Verb.Store (λ why. NoWord address.now why ⊎ (NoByte key.now why ⊎ NoByte byte.now why))) }
 {
     let address = word_of(Verb::Store, address)?;
     let key = byte_of(Verb::Store, key)?;
@@ -132,7 +135,7 @@ fn store(address: &str, key: &str, byte: &str) -> Result<Command, Wrong>
 // KEYS first count
 fn keys(first: &str, count: &str) -> Result<Command, Wrong>
     ensures called { IfOk result (λ c. verb_of c ≡ Verb.Keys) }
-    ensures says { IfOk result (λ c. (f : ℕ) × (n : ℕ) × (c ≡ Command.Keys f n) × Writes first.now f × Writes count.now n) }
+    ensures says { MatchResult result (λ c. (f : ℕ) × (n : ℕ) × (c ≡ Command.Keys f n) × Writes first.now f × Writes count.now n) (IsMisread Verb.Keys (λ why. NoWord first.now why ⊎ NoWord count.now why)) }
 {
     Ok(Command::Keys(word_of(Verb::Keys, first)?, word_of(Verb::Keys, count)?))
 }
@@ -174,6 +177,7 @@ impl Command {
     pub fn of(heap: Global, verb: Verb, words: &[&str]) -> Result<Command, Wrong>
         ensures called { IfOk result (λ c. verb_of c ≡ verb) }
         ensures says { IfOk result (Says words.now) }
+        ensures faulty { IfErr result (Faulty verb words.now) }
     {
         match (verb, words) {
             (Verb::Help, []) => Ok(Command::Help),
