@@ -1,15 +1,18 @@
 -- Errors of the words behind a verb, and the words at their places.
-use Rattle.std.proofs.Common.{◌≡◌, ℕ, ◌<◌, ◌≤◌, ◌⊎◌, List, [], ◌∷◌, length, get_or, Result, Ok, Err, IfErr, IfOk, MatchResult, Bor, refl, sym, ◌∙◌, inl, inr, zero, suc, arith, ⊎_elim}
+use Rattle.std.proofs.Common.{◌≡◌, ℕ, ◌+◌, ◌-◌, ◌<◌, ◌≤◌, ◌⊎◌, List, [], ◌∷◌, ◌++◌, length, take, drop, length-drop, subst, get_or, Result, Ok, Err, IfErr, IfOk, MatchResult, Bor, refl, sym, ◌∙◌, inl, inr, zero, suc, arith, ⊎_elim}
 use Rattle.std.specs.Result.{IsErrAnd}
-use Rattle.script.specs.Commands.{Says, word_at}
-use Rattle.script.specs.Faults.{Faulty, IsMisread, Misreads, NoNumber}
+use Rattle.std.proofs.lemmas.List.{take_all, take_more}
+use Rattle.script.specs.Commands.{Says, word_at, WriteBytes}
+use Rattle.script.specs.Faults.{BytesFaulty, Faulty, IsMisread, Misreads, NoByte, NoNumber}
 use Rattle.script.specs.Numbers.{ReadsTo, Writes}
 use Rattle.script.specs.declared.command.Command.{Command}
 use Rattle.script.specs.declared.number.NotNumber.{NotNumber}
 use Rattle.script.specs.declared.number.NotNumber.TheVariants.{Malformed, TooLarge}
 use Rattle.script.specs.declared.verb.Verb.{Verb}
+use Rattle.script.specs.declared.verb.Verb.TheVariants.{Alter}
 use Rattle.script.specs.declared.wrong.Wrong.{Wrong}
-use Rattle.script.specs.declared.wrong.Wrong.TheVariants.{Number}
+use Rattle.script.specs.declared.wrong.Wrong.TheVariants.{Memory, Number}
+use Rattle.script.proofs.Named.{all_zip_push}
 
 -- What reading a number up to a largest one says of the word, and of the error that comes of it.
 pub limited_reads : (Post : NotNumber → Wrong → Type 0) (verb : Verb) (text : List ℕ) (largest : ℕ) (read : Result ℕ NotNumber) (r : Result ℕ Wrong)
@@ -96,3 +99,40 @@ pub known_faulty : {A : Type 0} (r : Result A Wrong) (verb known : Verb) (words 
     → verb ≡ known → Faulty known words e → IfErr r (Faulty verb words)
 known_faulty (Err y) verb known words e same is h = rw (same, is) h
 known_faulty (Ok x) verb known words e same is h = tt
+
+-- One byte more.
+pub bytes_more : (words : List (Bor (List ℕ))) (bytes : List ℕ) (i n : ℕ) → i < length words → WriteBytes (take i words) bytes
+    → Writes (get_or words i nothing).now n → WriteBytes (take (i + 1) words) (bytes ++ n ∷ [])
+bytes_more words bytes i n lt had h =
+    rw (take_more words i nothing lt) (all_zip_push (λ (w : Bor (List ℕ)) byte. Writes w.now byte) (take i words) bytes (get_or words i nothing) n had h)
+
+byte_error : (words : List (Bor (List ℕ))) (i : ℕ) (e : Wrong) → i < length words → IsMisread Alter (NoByte (get_or words i nothing).now) e → BytesFaulty words e
+byte_error words i (Number v why) lt h = (h.0, (i, lt, at_word (λ t. NoByte t why) words i lt h.1))
+byte_error words i _ lt h = absurd h
+
+-- A word that is no byte.
+pub byte_misread : {A : Type 0} (r : Result A Wrong) (Q : A → Type 0) (words : List (Bor (List ℕ))) (i : ℕ) (e : Wrong) → IsErrAnd r (λ y. y ≡ e)
+    → i < length words → IsMisread Alter (NoByte (get_or words i nothing).now) e → MatchResult r Q (BytesFaulty words)
+byte_misread (Ok x) Q words i e same lt h = absurd same
+byte_misread (Err y) Q words i e same lt h = rw same (byte_error words i e lt h)
+
+-- The words behind the first, as a slice.
+pub behind_first : (words : List (Bor (List ℕ))) → take (length words - 1) (drop 1 words) ≡ drop 1 words
+behind_first words = take_all (length words - 1) (drop 1 words) (simp length-drop (omega arith))
+
+bytes_error : (words : List (Bor (List ℕ))) (e : Wrong) → BytesFaulty (drop 1 words) e → Faulty Alter words e
+bytes_error words (Number v why) h = (h.0, inr h.1)
+bytes_error words Memory h = tt
+bytes_error words _ h = absurd h
+
+-- Words of ALTER that are no bytes.
+pub bytes_faulty : {A : Type 0} (r : Result A Wrong) (words : List (Bor (List ℕ))) (e : Wrong) → IsErrAnd r (λ y. y ≡ e)
+    → BytesFaulty (take (length words - 1) (drop 1 words)) e → IfErr r (Faulty Alter words)
+bytes_faulty (Ok x) words e same h = tt
+bytes_faulty (Err y) words e same h = rw same (bytes_error words e (subst (λ part. BytesFaulty part e) (behind_first words) h))
+
+-- What is said of the words of ALTER.
+pub alter_says : (words : List (Bor (List ℕ))) (address : ℕ) (bytes : List ℕ) → 2 ≤ length words → Writes (get_or words 0 nothing).now address
+    → WriteBytes (take (length words - 1) (drop 1 words)) bytes → (2 ≤ length words) × Writes (word_at words 0) address × WriteBytes (drop 1 words) bytes
+alter_says words address bytes low first rest =
+    (low, at_word (λ t. Writes t address) words 0 (omega arith) first, subst (λ part. WriteBytes part bytes) (behind_first words) rest)

@@ -1,5 +1,5 @@
 -- Errors: when one shows a true fault of the words behind a verb.
-use Rattle.std.specs.Prelude.{◌≡◌, ◌≢◌, ℕ, ◌<◌, ◌≤◌, ◌⊎◌, Bool, List, [], length, Err, IsSome, IsSomeAnd, None, Option, codes, nat_eq}
+use Rattle.std.specs.Prelude.{◌≡◌, ◌≢◌, ℕ, ◌<◌, ◌≤◌, ◌⊎◌, Bool, List, [], length, drop, Err, IsSome, IsSomeAnd, None, Option, codes, nat_eq}
 use Rattle.std.specs.List.{after_first, before_first, position_or_len}
 use Rattle.std.proofs.Common.{Bor}
 use Rattle.script.specs.Commands.{word_at}
@@ -37,6 +37,12 @@ IsMisread verb Misses _ = ⊥
 -- One of the words has a fault.
 abbrev pub SomeWord : (List ℕ → Type 0) → List (Bor (List ℕ)) → Type 0
 SomeWord Fault words = (i : ℕ) × (i < length words) × Fault (word_at words i)
+
+-- The error shows a true fault of the words of ALTER that are to be bytes, or that there is no memory.
+abbrev pub BytesFaulty : List (Bor (List ℕ)) → Wrong → Type 0
+BytesFaulty words (Number v why) = (v ≡ Alter) × SomeWord (λ word. NoByte word why) words
+BytesFaulty words Memory = Unit {0}
+BytesFaulty words _ = ⊥
 
 -- A name stands twice or more.
 abbrev pub Repeats : List ℕ → List (Bor (List ℕ)) → Type 0
@@ -178,7 +184,7 @@ NoNumber Bad words why = NoWord (word_at words 0) why
 NoNumber Mark words why = NoWord (word_at words 0) why ⊎ NoByte (word_at words 1) why
 NoNumber Storage words why = Misreads (word_at words 0) 67108864 why
 NoNumber Display words why = NoWord (word_at words 0) why ⊎ NoWord (word_at words 1) why
-NoNumber Alter words why = Unit {0}
+NoNumber Alter words why = NoWord (word_at words 0) why ⊎ SomeWord (λ word. NoByte word why) (drop 1 words)
 NoNumber Walk words why = NoWord (word_at words 0) why ⊎ (NoWord (word_at words 1) why ⊎ NoWord (word_at words 2) why)
 NoNumber Slot words why = NoWord (word_at words 0) why
 NoNumber Ipl words why = SomeWord (λ word. StartMisreads word why) words

@@ -1,7 +1,7 @@
 //! Lines and the commands that they write.
 ghost use Rattle.std.specs.Prelude.{◌≡◌, ℕ, ◌⊎◌, IfErr, IfOk, MatchResult};
-ghost use Rattle.script.specs.Commands.{Says, verb_of};
-ghost use Rattle.script.specs.Faults.{Faulty, IsMisread, NoByte, NoWord};
+ghost use Rattle.script.specs.Commands.{Says, verb_of, WriteBytes};
+ghost use Rattle.script.specs.Faults.{BytesFaulty, Faulty, IsMisread, NoByte, NoWord};
 ghost use Rattle.script.specs.Lines.{IsUncommented, Parses};
 ghost use Rattle.script.specs.Numbers.{Writes};
 
@@ -53,6 +53,17 @@ pub fn uncommented(line: &[u8]) -> &[u8]
     &line[..end]
 }
 
+// The bytes that words behind ALTER write. (Not `try_collect`, of which a caller does not learn which word was no byte.)
+fn bytes_of(heap: Global, words: &[&str]) -> Result<Vec<u8>, Wrong>
+    ensures { MatchResult result (λ bytes. WriteBytes words.now bytes.items) (BytesFaulty words.now) }
+{
+    let mut bytes = Vec::new(heap);
+    for word in words {
+        bytes.push(byte_of(Verb::Alter, word)?)?;
+    }
+    Ok(bytes)
+}
+
 // ALTER address byte byte ..
 fn alter(heap: Global, words: &[&str]) -> Result<Command, Wrong>
     ensures called { IfOk result (λ c. verb_of c ≡ Verb.Alter) }
@@ -63,10 +74,7 @@ fn alter(heap: Global, words: &[&str]) -> Result<Command, Wrong>
         return Err(Wrong::Arguments(Verb::Alter));
     };
     let address = word_of(Verb::Alter, address)?;
-    let bytes = words[1..]
-        .iter()
-        .map(|word| byte_of(Verb::Alter, word))
-        .try_collect(heap)?;
+    let bytes = bytes_of(heap, &words[1..])?;
     Ok(Command::Alter(address, bytes))
 }
 
