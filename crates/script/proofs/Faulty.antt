@@ -120,16 +120,16 @@ byte_misread (Err y) Q words i e same lt h = rw same (byte_error words i e lt h)
 pub behind_first : (words : List (Bor (List ℕ))) → take (length words - 1) (drop 1 words) ≡ drop 1 words
 behind_first words = take_all (length words - 1) (drop 1 words) (simp length-drop (omega arith))
 
-bytes_error : (words : List (Bor (List ℕ))) (e : Wrong) → BytesFaulty (drop 1 words) e → Faulty Alter words e
-bytes_error words (Number v why) h = (h.0, inr h.1)
-bytes_error words Memory h = tt
-bytes_error words _ h = absurd h
+bytes_error : (words : List (Bor (List ℕ))) (e : Wrong) → 2 ≤ length words → BytesFaulty (drop 1 words) e → Faulty Alter words e
+bytes_error words (Number v why) low h = (h.0, (low, inr h.1))
+bytes_error words Memory low h = tt
+bytes_error words _ low h = absurd h
 
 -- Words of ALTER that are no bytes.
-pub bytes_faulty : {A : Type 0} (r : Result A Wrong) (words : List (Bor (List ℕ))) (e : Wrong) → IsErrAnd r (λ y. y ≡ e)
+pub bytes_faulty : {A : Type 0} (r : Result A Wrong) (words : List (Bor (List ℕ))) (e : Wrong) → 2 ≤ length words → IsErrAnd r (λ y. y ≡ e)
     → BytesFaulty (take (length words - 1) (drop 1 words)) e → IfErr r (Faulty Alter words)
-bytes_faulty (Ok x) words e same h = tt
-bytes_faulty (Err y) words e same h = rw same (bytes_error words e (subst (λ part. BytesFaulty part e) (behind_first words) h))
+bytes_faulty (Ok x) words e low same h = tt
+bytes_faulty (Err y) words e low same h = rw same (bytes_error words e low (subst (λ part. BytesFaulty part e) (behind_first words) h))
 
 -- What is said of the words of ALTER.
 pub alter_says : (words : List (Bor (List ℕ))) (address : ℕ) (bytes : List ℕ) → 2 ≤ length words → Writes (get_or words 0 nothing).now address

@@ -177,23 +177,25 @@ Unfit Queues words = length words ≢ 0
 Unfit Pairs words = length words ≢ 0
 Unfit State words = length words ≢ 0
 
--- What is to be a number behind the verb is none, for the reason that is given.
+-- The words behind the verb are as many as it takes, and what is to be a number is none, for the reason that is given.
 abbrev pub NoNumber : Verb → List (Bor (List ℕ)) → NotNumber → Type 0
 NoNumber Wire words why = SomeWord (λ word. WiringMisreads word why) words
-NoNumber Bad words why = NoWord (word_at words 0) why
-NoNumber Mark words why = NoWord (word_at words 0) why ⊎ NoByte (word_at words 1) why
-NoNumber Storage words why = Misreads (word_at words 0) 67108864 why
-NoNumber Display words why = NoWord (word_at words 0) why ⊎ NoWord (word_at words 1) why
-NoNumber Alter words why = NoWord (word_at words 0) why ⊎ SomeWord (λ word. NoByte word why) (drop 1 words)
-NoNumber Walk words why = NoWord (word_at words 0) why ⊎ (NoWord (word_at words 1) why ⊎ NoWord (word_at words 2) why)
-NoNumber Slot words why = NoWord (word_at words 0) why
+NoNumber Bad words why = (length words ≡ 1) × NoWord (word_at words 0) why
+NoNumber Mark words why = (length words ≡ 2) × (NoWord (word_at words 0) why ⊎ NoByte (word_at words 1) why)
+NoNumber Storage words why = (length words ≡ 1) × Misreads (word_at words 0) 67108864 why
+NoNumber Display words why = (length words ≡ 2) × (NoWord (word_at words 0) why ⊎ NoWord (word_at words 1) why)
+NoNumber Alter words why = (2 ≤ length words) × (NoWord (word_at words 0) why ⊎ SomeWord (λ word. NoByte word why) (drop 1 words))
+NoNumber Walk words why =
+    ((length words ≡ 1) × NoWord (word_at words 0) why)
+    ⊎ ((length words ≡ 3) × (NoWord (word_at words 0) why ⊎ (NoWord (word_at words 1) why ⊎ NoWord (word_at words 2) why)))
+NoNumber Slot words why = (length words ≡ 1) × NoWord (word_at words 0) why
 NoNumber Ipl words why = SomeWord (λ word. StartMisreads word why) words
-NoNumber Load words why = NoWord (word_at words 0) why ⊎ NoByte (word_at words 1) why
-NoNumber Store words why = NoWord (word_at words 0) why ⊎ (NoByte (word_at words 1) why ⊎ NoByte (word_at words 2) why)
-NoNumber Fix words why = NoWord (word_at words 0) why
-NoNumber Free words why = NoWord (word_at words 0) why
-NoNumber Entry words why = NoWord (word_at words 0) why
-NoNumber Keys words why = NoWord (word_at words 0) why ⊎ NoWord (word_at words 1) why
+NoNumber Load words why = (length words ≡ 2) × (NoWord (word_at words 0) why ⊎ NoByte (word_at words 1) why)
+NoNumber Store words why = (length words ≡ 3) × (NoWord (word_at words 0) why ⊎ (NoByte (word_at words 1) why ⊎ NoByte (word_at words 2) why))
+NoNumber Fix words why = (length words ≡ 1) × NoWord (word_at words 0) why
+NoNumber Free words why = (length words ≡ 1) × NoWord (word_at words 0) why
+NoNumber Entry words why = (length words ≡ 1) × NoWord (word_at words 0) why
+NoNumber Keys words why = (length words ≡ 2) × (NoWord (word_at words 0) why ⊎ NoWord (word_at words 1) why)
 NoNumber _ words why = ⊥
 
 -- A word behind WIRE or IPL is none that it knows.

@@ -53,7 +53,8 @@ pub fn uncommented(line: &[u8]) -> &[u8]
     &line[..end]
 }
 
-// The bytes that words behind ALTER write. (Not `try_collect`, of which a caller does not learn which word was no byte.)
+// The bytes that words behind ALTER write. (Not `try_collect`: its clauses speak of runs of iterators, from which the way to the
+// words is longer than this loop.)
 fn bytes_of(heap: Global, words: &[&str]) -> Result<Vec<u8>, Wrong>
     ensures { MatchResult result (λ bytes. WriteBytes words.now bytes.items) (BytesFaulty words.now) }
 {
