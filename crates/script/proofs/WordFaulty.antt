@@ -8,7 +8,7 @@ use Rattle.std.specs.Cmp.Lexicographic.{same_text}
 use Rattle.std.proofs.Math.ListN.{take-append-drop}
 use Rattle.std.proofs.lemmas.List.Elements.{filter_map-append}
 use Rattle.std.proofs.lemmas.Str.Pattern.{IsSplitOnceResult, split_after, split_once_first}
-use Rattle.script.specs.Faults.{Again, Faulty, is_comma, IsMisread, NoneChosen, NoPartition, SourceFaulty, WiringMisreads, WiringUnknown, WiringWordFaulty, PartitionFaulty, PartitionMisreads, Repeats, StartMisreads, StartWordFaulty}
+use Rattle.script.specs.Faults.{Again, Faulty, HasComma, is_comma, IsMisread, NoneChosen, NoPartition, SourceFaulty, WiringMisreads, WiringUnknown, WiringWordFaulty, PartitionFaulty, PartitionMisreads, Repeats, StartMisreads, StartWordFaulty}
 use Rattle.script.specs.Numbers.{Writes}
 use Rattle.script.specs.Said.{AtMostOnce, Once, value_for, values}
 use Rattle.script.specs.Wirings.{IsHeld, Names, SaysSource, Spells, WritesSlots}
@@ -89,8 +89,8 @@ some_and P o x e h = rw e h
 
 -- The parts of a text at its first comma.
 pub cut_comma : (text : List ℕ) (r : Option (Bor (List ℕ) × Bor (List ℕ))) (x : Bor (List ℕ) × Bor (List ℕ)) → IsSplitOnceResult 44 text r → r ≡ Some x
-    → (x.0.now ≡ before_first is_comma text) × (x.1.now ≡ after_first is_comma text)
-cut_comma text r x split is = let parts = rw is at (split_once_first 44 text r split (lit< tt)) in (parts.1, parts.2)
+    → (x.0.now ≡ before_first is_comma text) × (x.1.now ≡ after_first is_comma text) × HasComma text
+cut_comma text r x split is = let parts = rw is at (split_once_first 44 text r split (lit< tt)) in (parts.1, parts.2, parts.0)
 
 partition_number : (value : List ℕ) (Misses : NotNumber → Type 0) (e : Wrong) → IsMisread Ipl Misses e
     → ((why : NotNumber) → Misses why → PartitionMisreads value why) → PartitionFaulty value e

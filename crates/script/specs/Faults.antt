@@ -55,20 +55,24 @@ Again value held = IsSome value × IsSome held
 abbrev pub is_comma : ℕ → Bool
 is_comma c = nat_eq c 44
 
--- A text has no comma.
+-- A text has no comma, or it has one.
 abbrev pub NoComma : List ℕ → Type 0
 NoComma text = position_or_len is_comma text ≡ length text
+
+abbrev pub HasComma : List ℕ → Type 0
+HasComma text = position_or_len is_comma text < length text
 
 -- A value of partition= has fewer than two commas.
 abbrev pub NoPartition : List ℕ → Type 0
 NoPartition text = NoComma text ⊎ NoComma (after_first is_comma text)
 
--- In a value of partition= the first page in front of the first comma, the count in front of the second or the key behind
--- it is no number, for the reason that is given.
+-- A value of partition= has two commas or more, and the first page in front of the first, the count in front of the second
+-- or the key behind it is no number, for the reason that is given.
 abbrev pub PartitionMisreads : List ℕ → NotNumber → Type 0
 PartitionMisreads text why =
-    NoWord (before_first is_comma text) why
-    ⊎ (NoWord (before_first is_comma (after_first is_comma text)) why ⊎ NoByte (after_first is_comma (after_first is_comma text)) why)
+    HasComma text × HasComma (after_first is_comma text)
+    × (NoWord (before_first is_comma text) why
+    ⊎ (NoWord (before_first is_comma (after_first is_comma text)) why ⊎ NoByte (after_first is_comma (after_first is_comma text)) why))
 
 -- The error shows a true fault of a value of partition=.
 abbrev pub PartitionFaulty : List ℕ → Wrong → Type 0
