@@ -1,104 +1,83 @@
--- The words of a text, and what a line with words writes.
-use Rattle.std.proofs.Common.{◌≡◌, ◌≢◌, ℕ, ◌<◌, List, [], ◌∷◌, ◌++◌, length, true, Option, Result, Err, Ok, IfOk, IsSomeAnd, Some, None, Bor, refl, sym, ap, append_assoc, ◌∙◌, inl, inr, arith}
-use Rattle.std.specs.Result.{IsErr}
+-- The words of a text, and what a line with a first one writes.
+use Rattle.std.proofs.Common.{◌≡◌, ◌≢◌, ℕ, ◌+◌, ◌<◌, ◌≤◌, List, [], ◌∷◌, ◌++◌, length, true, Option, Result, Err, Ok, Bor, refl, sym, ap, subst, ◌∙◌, inl, inr, append_assoc, arith}
+use Rattle.std.specs.Result.{IsErrAnd}
 use Rattle.std.specs.Char.{is_ascii_whitespace}
-use Rattle.std.specs.List.{AllPass, slice_index}
-use Rattle.std.specs.Str.Iter.{CutsAsciiWord, IsAsciiSeparator}
 use Rattle.std.specs.Iterator.{Yields}
+use Rattle.std.specs.List.{AllPass, slice_index}
+use Rattle.std.specs.Str.{NoCharPasses}
+use Rattle.std.specs.Str.Iter.{IsAsciiSeparator, split_ascii_whitespace_steps, split_ascii_whitespace_text}
+use Rattle.std.specs.declared.str.SplitAsciiWhitespace.{SplitAscii}
 use Rattle.std.proofs.lemmas.List.Elements.{All-append}
-use Rattle.script.specs.Commands.{Says, verb_of}
-use Rattle.script.specs.Lines.{AreWords, IsCommandOf, IsFirstWord, IsUncommented, Parses}
+use Rattle.script.specs.Lines.{Answers, AreWords, IsFirstWord, IsUncommented, Parses}
 use Rattle.script.specs.Verbs.{spelled}
 use Rattle.script.specs.declared.command.Command.{Command}
 use Rattle.script.specs.declared.verb.Verb.{Verb}
 use Rattle.script.specs.declared.wrong.Wrong.{Wrong}
-use Rattle.script.specs.declared.wrong.Wrong.TheVariants.{NoCommand}
+use Rattle.script.specs.declared.wrong.Wrong.TheVariants.{Memory, NoCommand}
 
-white_behind : (sep rest : List ℕ) → IsAsciiSeparator sep rest → 0 < length (sep ++ rest) → is_ascii_whitespace (slice_index (sep ++ rest) 0) ≡ true
+-- What stands behind a word that came off begins with white space.
+pub white_behind : (sep rest : List ℕ) → IsAsciiSeparator sep rest → 0 < length (sep ++ rest) → is_ascii_whitespace (slice_index (sep ++ rest) 0) ≡ true
 white_behind [] rest h lt = absurd (let none = h.2 refl in omega arith)
 white_behind (c ∷ sep) rest h lt = h.0 0 c (omega arith)
 
--- White space in front of a text leaves its words.
-behind_white : (sep text : List ℕ) (words : List (Bor (List ℕ))) → AllPass is_ascii_whitespace sep → AreWords text words → AreWords (sep ++ text) words
-behind_white sep text [] white h = All-append (λ c. is_ascii_whitespace c ≡ true) sep text white h
-behind_white sep text (w ∷ ws) white (first, more) = (
-      record {
-        gap = sep ++ first.gap;
-        rest = first.rest;
-        parts = ap (λ t. sep ++ t) first.parts ∙ sym (append_assoc sep first.gap (w.now ++ first.rest));
-        white = All-append (λ c. is_ascii_whitespace c ≡ true) sep first.gap white first.white;
-        some = first.some;
-        plain = first.plain;
-        ends = first.ends;
-      },
-      more,
-    )
+-- The word that comes off the front of a text is its first.
+abbrev pub first_word : (text whole word rest : List ℕ) → whole ≡ text
+    → (0 < length word) × NoCharPasses is_ascii_whitespace word × (length word + length rest ≤ length whole)
+    × ((gap : List ℕ) × (sep : List ℕ) × (whole ≡ gap ++ (word ++ (sep ++ rest))) × AllPass is_ascii_whitespace gap × IsAsciiSeparator sep rest)
+    → IsFirstWord text word
+first_word text whole word rest e (some, plain, fits, (gap, sep, parts, white, behind)) = record {
+  gap = gap;
+  rest = sep ++ rest;
+  parts = sym e ∙ parts;
+  white = white;
+  some = some;
+  plain = plain;
+  ends = white_behind sep rest behind;
+}
 
--- A word that comes off the front of a text, and the words of what is left.
-pub word_more : (text whole left : List ℕ) (word : Bor (List ℕ)) (words : List (Bor (List ℕ))) → whole ≡ text
-    → CutsAsciiWord whole (Some word) left (λ gap x sep. gap ++ (x ++ (sep ++ left))) → AreWords left words → AreWords text (word ∷ words)
-word_more text whole left word words e (some, plain, fits, (gap, sep, parts, white, behind)) more = (
-      record {
-        gap = gap;
-        rest = sep ++ left;
-        parts = sym e ∙ parts;
-        white = white;
-        some = some;
-        plain = plain;
-        ends = white_behind sep left behind;
-      },
-      behind_white sep left words behind.0 more,
-    )
+white_both : (xs ys : List ℕ) → AllPass is_ascii_whitespace xs → AllPass is_ascii_whitespace ys → AllPass is_ascii_whitespace (xs ++ ys)
+white_both xs ys h k = All-append (λ c. is_ascii_whitespace c ≡ true) xs ys h k
 
--- What comes off the front of a text, one word after another up to the last, are its words.
-pub words_of_run : {S : Type 0} (steps : S → Option (Bor (List ℕ)) → S → Type 0) (text_of : S → List ℕ)
-    → ((s t : S) (r : Option (Bor (List ℕ))) → steps s r t → CutsAsciiWord (text_of s) r (text_of t) (λ gap x sep. gap ++ (x ++ (sep ++ text_of t))))
-    → (words : List (Bor (List ℕ))) (s t u : S) → Yields steps s words t → steps t None u → AreWords (text_of s) words
-words_of_run steps text_of cuts [] s t u e none = rw e ((cuts t u None none).0)
-words_of_run steps text_of cuts (w ∷ ws) s t u (j, step, more) none =
-    word_more (text_of s) (text_of s) (text_of j) w ws refl (cuts s j (Some w) step) (words_of_run steps text_of cuts ws j t u more none)
+-- White space in front of a text adds no word.
+white_front : (sep text : List ℕ) (words : List (Bor (List ℕ))) → AllPass is_ascii_whitespace sep → AreWords text words → AreWords (sep ++ text) words
+white_front sep text [] white h = white_both sep text white h
+white_front sep text (word ∷ words) white h = (
+  record {
+    gap = sep ++ h.0.gap;
+    rest = h.0.rest;
+    parts = ap (λ t. sep ++ t) h.0.parts ∙ sym (append_assoc sep h.0.gap (word.now ++ h.0.rest));
+    white = white_both sep h.0.gap white h.0.white;
+    some = h.0.some;
+    plain = h.0.plain;
+    ends = h.0.ends;
+  },
+  h.1,
+)
+
+-- The words that come off a text until only white space is left are its words.
+pub words_yielded : (words : List (Bor (List ℕ))) (s t : SplitAscii) → Yields split_ascii_whitespace_steps s words t
+    → AllPass is_ascii_whitespace (split_ascii_whitespace_text t) → AreWords (split_ascii_whitespace_text s) words
+words_yielded [] s t h white = subst (λ u. AllPass is_ascii_whitespace (split_ascii_whitespace_text u)) (sym h) white
+words_yielded (word ∷ words) s t (j, cut, more) white = (
+  first_word (split_ascii_whitespace_text s) (split_ascii_whitespace_text s) word.now (split_ascii_whitespace_text j) refl cut,
+  white_front cut.3.1 (split_ascii_whitespace_text j) words cut.3.4.0 (words_yielded words j t more white),
+)
 
 -- A line whose first word spells no verb.
-pub parses_unknown : (line text whole left : List ℕ) (word : Bor (List ℕ)) (r : Result (Option Command) Wrong) → IsUncommented line text → whole ≡ text
-    → CutsAsciiWord whole (Some word) left (λ gap x sep. gap ++ (x ++ (sep ++ left)))
-    → ((v : Verb) → spelled v ≢ word.now) → r ≡ Err NoCommand → Parses line r
-parses_unknown line text whole left word r front is (some, plain, fits, (gap, sep, parts, white, behind)) none e =
-    let first : IsFirstWord text word.now = record {
-      gap = gap;
-      rest = sep ++ left;
-      parts = sym is ∙ parts;
-      white = white;
-      some = some;
-      plain = plain;
-      ends = white_behind sep left behind;
-    } in
-    (text, front, inr (inr (word.now, first, inr (none, e))))
+pub parses_unknown : (line text word : List ℕ) (r : Result (Option Command) Wrong) → IsUncommented line text → IsFirstWord text word
+    → ((v : Verb) → spelled v ≢ word) → r ≡ Err NoCommand → Parses line r
+parses_unknown line text word r front first none e = (text, front, inr (inr (word, first, inr (none, e))))
 
-called : (r : Result (Option Command) Wrong) (v : Verb) (behind : List ℕ) (words : List (Bor (List ℕ))) → AreWords behind words
-    → IfOk r (λ o. IsSomeAnd o (λ c. verb_of c ≡ v)) → IfOk r (λ o. IsSomeAnd o (Says words)) → IfOk r (λ o. IsSomeAnd o (IsCommandOf v behind))
-called (Ok (Some c)) v behind words are verb says = (verb, (words, are, says))
-called (Ok None) v behind words are verb says = absurd verb
-called (Err e) v behind words are verb says = tt
+-- A line whose first word spells a verb, where there is no memory for the words behind it.
+pub parses_full : (line text word : List ℕ) (r : Result (Option Command) Wrong) (v : Verb) → IsUncommented line text → IsFirstWord text word
+    → spelled v ≡ word → IsErrAnd r (λ e. e ≡ Memory) → Parses line r
+parses_full line text word (Err e) v front first is full = (text, front, inr (inr (word, first, inl (v, is, inl (ap (λ x. Err x) full)))))
+parses_full line text word (Ok o) v front first is full = absurd full
 
 -- A line whose first word spells a verb.
-pub parses_verb : (line text : List ℕ) (word : Bor (List ℕ)) (words : List (Bor (List ℕ))) (r : Result (Option Command) Wrong) (v : Verb)
-    → IsUncommented line text → AreWords text (word ∷ words) → spelled v ≡ word.now
-    → IfOk r (λ o. IsSomeAnd o (λ c. verb_of c ≡ v)) → IfOk r (λ o. IsSomeAnd o (Says words)) → Parses line r
-parses_verb line text word words r v front (first, more) is verb says =
-    (text, front, inr (inr (word.now, first, inl (v, is, called r v first.rest words more verb says))))
-
--- A line whose words are not all read, since memory runs out.
-pub parses_no_more : (line text whole left : List ℕ) (word : Bor (List ℕ)) (r : Result (Option Command) Wrong) (v : Verb) → IsUncommented line text
-    → whole ≡ text → CutsAsciiWord whole (Some word) left (λ gap x sep. gap ++ (x ++ (sep ++ left))) → spelled v ≡ word.now → IsErr r → Parses line r
-parses_no_more line text whole left word (Ok o) v front is cut spells h = cc
-parses_no_more line text whole left word (Err e) v front is (some, plain, fits, (gap, sep, parts, white, behind)) spells h =
-    let first : IsFirstWord text word.now = record {
-      gap = gap;
-      rest = sep ++ left;
-      parts = sym is ∙ parts;
-      white = white;
-      some = some;
-      plain = plain;
-      ends = white_behind sep left behind;
-    } in
-    (text, front, inr (inr (word.now, first, inl (v, spells, tt))))
+pub parses_verb : (line text whole word rest : List ℕ) (r : Result (Option Command) Wrong) (v : Verb) (words : List (Bor (List ℕ))) → IsUncommented line text
+    → (e : whole ≡ text) → (cut : (0 < length word) × NoCharPasses is_ascii_whitespace word × (length word + length rest ≤ length whole)
+    × ((gap : List ℕ) × (sep : List ℕ) × (whole ≡ gap ++ (word ++ (sep ++ rest))) × AllPass is_ascii_whitespace gap × IsAsciiSeparator sep rest))
+    → spelled v ≡ word → AreWords rest words → Answers v words r → Parses line r
+parses_verb line text whole word rest r v words front e cut is behind h =
+    (text, front, inr (inr (word, first_word text whole word rest e cut, inl (v, is, inr (words, white_front cut.3.1 rest words cut.3.4.0 behind, h)))))

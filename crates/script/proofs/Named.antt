@@ -1,12 +1,10 @@
 -- Words of the form name=value: which value a word has for a name, and what is said once.
-use Rattle.std.proofs.Common.{◌≡◌, ℕ, ◌+◌, ◌<◌, ◌≤◌, List, [], ◌∷◌, ◌++◌, length, get_or, take, Option, Some, None, Ok, Err, Result, Bor, OnOk, true, append-nil, refl, ap, ◌∙◌, inl, inr, lit<}
+use Rattle.std.proofs.Common.{◌≡◌, ℕ, ◌+◌, ◌<◌, ◌≤◌, List, [], ◌∷◌, ◌++◌, length, get_or, take, Option, Some, None, Ok, Err, Result, MatchResult, Bor, OnOk, true, append-nil, refl, ap, ◌∙◌, inl, inr, lit<}
 use Rattle.std.specs.Option.{unwrap_or}
 use Rattle.std.specs.List.{AllZip, cons_option}
 use Rattle.std.proofs.lemmas.List.{take_all, take_more}
 use Rattle.std.proofs.lemmas.List.Elements.{All-push, filter_map-append}
 use Rattle.std.proofs.lemmas.Str.Pattern.{IsSplitOnceResult, split_parts}
-use Rattle.script.specs.Commands.{WritesBytes}
-use Rattle.script.specs.Numbers.{Writes}
 use Rattle.script.specs.Said.{AllNamed, Appends, AtMostOnce, has_name, OnceOrZero, Takes, value_for, values}
 
 -- What stands in front of the = and behind it.
@@ -17,10 +15,10 @@ cut word r x name split is named =
     parts.0 ∙ ap (λ n. n ++ (61 ∷ x.1.now)) named
 
 -- The first value of a name is held.
-pub takes_first : {A : Type 0} {E : Type 0} (Says : List ℕ → A → Type 0) (r : Result (Unit {0}) E) (word : Option (List ℕ)) (old new : Option A)
-    (text : List ℕ) (x : A) → word ≡ Some text → OnOk r ((old ≡ None) × (new ≡ Some x)) → Says text x → OnOk r (Takes Says word old new)
-takes_first Says (Ok u) word old new text x e h s = rw (e, h.1) (h.0, s)
-takes_first Says (Err why) word old new text x e h s = tt
+pub takes_first : {A : Type 0} {E : Type 0} (Says : List ℕ → A → Type 0) (r : Result (Unit {0}) E) (Q : E → Type 0) (word : Option (List ℕ)) (old new : Option A)
+    (text : List ℕ) (x : A) → word ≡ Some text → MatchResult r (λ _. (old ≡ None) × (new ≡ Some x)) Q → Says text x → OnOk r (Takes Says word old new)
+takes_first Says (Ok u) Q word old new text x e h s = rw (e, h.1) (h.0, s)
+takes_first Says (Err why) Q word old new text x e h s = tt
 
 -- A word of another name.
 pub takes_none : {A : Type 0} (Says : List ℕ → A → Type 0) (word : Option (List ℕ)) (old : Option A) → word ≡ None → Takes Says word old old
@@ -52,7 +50,7 @@ pub once_or_zero : (Says : List ℕ → ℕ → Type 0) (texts : List (List ℕ)
 once_or_zero Says texts None h = inl (h, refl)
 once_or_zero Says texts (Some n) h = inr h
 
--- Two lists that go together, with one more in each.
+-- One element more on both sides.
 pub all_zip_push : {A B : Type 0} (R : A → B → Type 0) (xs : List A) (ys : List B) (x : A) (y : B) → AllZip R xs ys → R x y → AllZip R (xs ++ x ∷ []) (ys ++ y ∷ [])
 all_zip_push R [] [] x y h r = (r, tt)
 all_zip_push R [] (b ∷ ys) x y h r = absurd h
@@ -96,9 +94,3 @@ named_more names words i d lt had h =
 -- All words have one of some names, when all were met.
 pub named_all : (names : List (List ℕ)) (words : List (Bor (List ℕ))) (i : ℕ) → length words ≤ i → AllNamed names (take i words) → AllNamed names words
 named_all names words i all h = rw (take_all i words all) at h
-
--- Words that write bytes, with one word more.
-pub bytes_more : (words : List (Bor (List ℕ))) (i : ℕ) (d : Bor (List ℕ)) (old new : List ℕ) (byte : ℕ) → i < length words
-    → WritesBytes (take i words) old → Writes (get_or words i d).now byte → new ≡ old ++ byte ∷ [] → WritesBytes (take (i + 1) words) new
-bytes_more words i d old new byte lt had h e =
-    rw (take_more words i d lt, e) (all_zip_push (λ (w : Bor (List ℕ)) n. Writes w.now n) (take i words) old (get_or words i d) byte had h)

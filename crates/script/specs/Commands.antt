@@ -1,5 +1,5 @@
 -- What commands are called, and what they say of the words behind their verbs.
-use Rattle.std.specs.Prelude.{◌≡◌, ℕ, ◌≤◌, List, [], None, Some, Option, length, drop, slice_get, string_bytes, vec_items}
+use Rattle.std.specs.Prelude.{◌≡◌, ℕ, ◌≤◌, List, [], None, Some, Option, length, drop, slice_get, string_bytes}
 use Rattle.std.specs.List.{AllZip}
 use Rattle.std.specs.Option.{option_map_or}
 use Rattle.std.proofs.Common.{Bor}
@@ -42,15 +42,15 @@ verb_of State = Verb.State
 abbrev pub word_at : List (Bor (List ℕ)) → ℕ → List ℕ
 word_at words i = option_map_or (λ (w : Bor (List ℕ)). w.now) (slice_get words i) []
 
+-- Each word writes the byte at its place, and there are as many bytes as words.
+abbrev pub WriteBytes : List (Bor (List ℕ)) → List ℕ → Type 0
+WriteBytes words bytes = AllZip (λ w byte. Writes w.now byte) words bytes
+
 -- The words behind WALK: an address alone, or with both control words.
 abbrev pub SaysWalk : List (Bor (List ℕ)) → ℕ → Option Words → Type 0
 SaysWalk words address None = (length words ≡ 1) × Writes (word_at words 0) address
 SaysWalk words address (Some controls) =
     (length words ≡ 3) × Writes (word_at words 0) address × Writes (word_at words 1) controls.cr0 × Writes (word_at words 2) controls.cr1
-
--- Words that write some bytes, one each, in order.
-abbrev pub WritesBytes : List (Bor (List ℕ)) → List ℕ → Type 0
-WritesBytes words bytes = AllZip (λ (w : Bor (List ℕ)) byte. Writes w.now byte) words bytes
 
 -- What a command says of the words behind its verb.
 abbrev pub Says : List (Bor (List ℕ)) → Command → Type 0
@@ -61,7 +61,8 @@ Says words (Bad slot) = (length words ≡ 1) × Writes (word_at words 0) slot
 Says words (Mark slot value) = (length words ≡ 2) × Writes (word_at words 0) slot × Writes (word_at words 1) value
 Says words (Storage bytes) = (length words ≡ 1) × Writes (word_at words 0) bytes × (bytes ≤ 67108864)
 Says words (Display address count) = (length words ≡ 2) × Writes (word_at words 0) address × Writes (word_at words 1) count
-Says words (Alter address bytes) = (2 ≤ length words) × Writes (word_at words 0) address × WritesBytes (drop 1 words) (vec_items bytes)
+Says words (Alter address bytes) =
+    (2 ≤ length words) × Writes (word_at words 0) address × WriteBytes (drop 1 words) bytes.items
 Says words (Walk address controls) = SaysWalk words address controls
 Says words Controls = length words ≡ 0
 Says words (Slot slot) = (length words ≡ 1) × Writes (word_at words 0) slot

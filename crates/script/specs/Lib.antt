@@ -5,4 +5,5 @@ pub mod Starts
 pub mod Wirings
 pub mod Verbs
 pub mod Commands
+pub mod Faults
 pub mod Lines

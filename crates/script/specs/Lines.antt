@@ -1,15 +1,16 @@
--- Lines: what stands in front of a comment, the first word, and the command that a line writes.
-use Rattle.std.specs.Prelude.{◌≡◌, ◌≢◌, ℕ, ◌<◌, ◌⊎◌, true, List, [], ◌∷◌, ◌++◌, length, take, Ok, Err, None, Option, Result, IfOk, IsSomeAnd, slice_index}
+-- Lines: what stands in front of a comment, the words, and the command that a line writes.
+use Rattle.std.specs.Prelude.{◌≡◌, ◌≢◌, ℕ, ◌<◌, ◌⊎◌, true, List, [], ◌∷◌, ◌++◌, length, take, Ok, Err, None, Option, Result, MatchResult, IsSomeAnd, slice_index}
 use Rattle.std.specs.Char.{is_ascii_whitespace}
 use Rattle.std.specs.List.{AllPass}
 use Rattle.std.specs.Str.{IsUtf8, NoCharPasses}
 use Rattle.std.proofs.Common.{Bor}
 use Rattle.script.specs.Commands.{Says, verb_of}
+use Rattle.script.specs.Faults.{Faulty}
 use Rattle.script.specs.Verbs.{spelled}
 use Rattle.script.specs.declared.command.Command.{Command}
 use Rattle.script.specs.declared.verb.Verb.{Verb}
 use Rattle.script.specs.declared.wrong.Wrong.{Wrong}
-use Rattle.script.specs.declared.wrong.Wrong.TheVariants.{NoCommand, NotText}
+use Rattle.script.specs.declared.wrong.Wrong.TheVariants.{Memory, NoCommand, NotText}
 
 -- A text is the part of a line in front of its first #, or the whole line where it has none.
 pub record IsUncommented (line text : List ℕ) : Type 0 where
@@ -27,20 +28,20 @@ pub record IsFirstWord (text word : List ℕ) : Type 0 where
   pub plain : NoCharPasses is_ascii_whitespace word
   pub ends : 0 < length rest → is_ascii_whitespace (slice_index rest 0) ≡ true
 
--- The words of a text, in their order: each is the first of what is left, and behind the last one is white space alone.
+-- The words that stand in a text, in their order.
 abbrev pub AreWords : List ℕ → List (Bor (List ℕ)) → Type 0
 AreWords text [] = AllPass is_ascii_whitespace text
-AreWords text (w ∷ ws) = (first : IsFirstWord text w.now) × AreWords first.rest ws
+AreWords text (word ∷ words) = (first : IsFirstWord text word.now) × AreWords first.rest words
 
--- A command of a verb, which says what the words of a text say.
-abbrev pub IsCommandOf : Verb → List ℕ → Command → Type 0
-IsCommandOf v behind c = (verb_of c ≡ v) × ((words : List (Bor (List ℕ))) × AreWords behind words × Says words c)
+-- A command of the verb that says the words, or an error that is a true fault of them.
+abbrev pub Answers : Verb → List (Bor (List ℕ)) → Result (Option Command) Wrong → Type 0
+Answers verb words r = MatchResult r (λ o. IsSomeAnd o (λ c. (verb_of c ≡ verb) × Says words c)) (Faulty verb words)
 
--- The answer to a line by its first word and what stands behind it: a command of the verb that the word spells, or that it
--- is no command.
+-- The answer to a line by its first word and what stands behind it: what the verb that the word spells makes of the words
+-- behind it, or that there is no memory to hold them; or that the word is no command.
 abbrev pub Calls : List ℕ → List ℕ → Result (Option Command) Wrong → Type 0
-Calls word behind r =
-    ((v : Verb) × (spelled v ≡ word) × IfOk r (λ o. IsSomeAnd o (IsCommandOf v behind)))
+Calls word rest r =
+    ((v : Verb) × (spelled v ≡ word) × ((r ≡ Err Memory) ⊎ ((words : List (Bor (List ℕ))) × AreWords rest words × Answers v words r)))
     ⊎ (((v : Verb) → spelled v ≢ word) × (r ≡ Err NoCommand))
 
 -- The answer to a line by its text: that it is none, nothing where it has no word, or what its first word calls.

@@ -1,6 +1,7 @@
 //! Lines and the commands that they write.
-ghost use Rattle.std.specs.Prelude.{◌≡◌, ℕ, IfOk};
-ghost use Rattle.script.specs.Commands.{Says, verb_of};
+ghost use Rattle.std.specs.Prelude.{◌≡◌, ℕ, ◌⊎◌, IfErr, IfOk, MatchResult};
+ghost use Rattle.script.specs.Commands.{Says, verb_of, WriteBytes};
+ghost use Rattle.script.specs.Faults.{BytesFaulty, Faulty, IsMisread, NoByte, NoWord};
 ghost use Rattle.script.specs.Lines.{IsUncommented, Parses};
 ghost use Rattle.script.specs.Numbers.{Writes};
 
@@ -52,28 +53,36 @@ pub fn uncommented(line: &[u8]) -> &[u8]
     &line[..end]
 }
 
+// The bytes that words behind ALTER write. (Not `try_collect`: its clauses speak of runs of iterators, from which the way to the
+// words is longer than this loop.)
+fn bytes_of(heap: Global, words: &[&str]) -> Result<Vec<u8>, Wrong>
+    ensures { MatchResult result (λ bytes. WriteBytes words.now bytes.items) (BytesFaulty words.now) }
+{
+    let mut bytes = Vec::new(heap);
+    for word in words {
+        bytes.push(byte_of(Verb::Alter, word)?)?;
+    }
+    Ok(bytes)
+}
+
 // ALTER address byte byte ..
 fn alter(heap: Global, words: &[&str]) -> Result<Command, Wrong>
     ensures called { IfOk result (λ c. verb_of c ≡ Verb.Alter) }
     ensures says { IfOk result (Says words.now) }
+    ensures faulty { IfErr result (Faulty Verb.Alter words.now) }
 {
     let [address, _, ..] = words else {
         return Err(Wrong::Arguments(Verb::Alter));
     };
     let address = word_of(Verb::Alter, address)?;
-    let rest = &words[1..];
-    // Not `try_collect`: what it gives would have to be proved of each adapter of the chain.
-    let mut bytes = Vec::new(heap);
-    for word in rest {
-        bytes.push(byte_of(Verb::Alter, word)?)?;
-    }
+    let bytes = bytes_of(heap, &words[1..])?;
     Ok(Command::Alter(address, bytes))
 }
 
 // WALK address cr0 cr1
 fn walk_by(address: &str, cr0: &str, cr1: &str) -> Result<Command, Wrong>
     ensures called { IfOk result (λ c. verb_of c ≡ Verb.Walk) }
-    ensures says { IfOk result (λ c. (a : ℕ) × (x : ℕ) × (y : ℕ) × (c ≡ Command.Walk a (Some (record { cr0 = x; cr1 = y }))) × Writes address.now a × Writes cr0.now x × Writes cr1.now y) }
+    ensures says { MatchResult result (λ c. (a : ℕ) × (x : ℕ) × (y : ℕ) × (c ≡ Command.Walk a (Some (record { cr0 = x; cr1 = y }))) × Writes address.now a × Writes cr0.now x × Writes cr1.now y) (IsMisread Verb.Walk (λ why. NoWord address.now why ⊎ (NoWord cr0.now why ⊎ NoWord cr1.now why))) }
 {
     let address = word_of(Verb::Walk, address)?;
     let cr0 = word_of(Verb::Walk, cr0)?;
@@ -85,6 +94,7 @@ fn walk_by(address: &str, cr0: &str, cr1: &str) -> Result<Command, Wrong>
 fn walk(words: &[&str]) -> Result<Command, Wrong>
     ensures called { IfOk result (λ c. verb_of c ≡ Verb.Walk) }
     ensures says { IfOk result (Says words.now) }
+    ensures faulty { IfErr result (Faulty Verb.Walk words.now) }
 {
     match words {
         [address] => Ok(Command::Walk(word_of(Verb::Walk, address)?, None)),
@@ -96,7 +106,7 @@ fn walk(words: &[&str]) -> Result<Command, Wrong>
 // MARK slot value
 fn mark(slot: &str, value: &str) -> Result<Command, Wrong>
     ensures called { IfOk result (λ c. verb_of c ≡ Verb.Mark) }
-    ensures says { IfOk result (λ c. (s : ℕ) × (v : ℕ) × (c ≡ Command.Mark s v) × Writes slot.now s × Writes value.now v) }
+    ensures says { MatchResult result (λ c. (s : ℕ) × (v : ℕ) × (c ≡ Command.Mark s v) × Writes slot.now s × Writes value.now v) (IsMisread Verb.Mark (λ why. NoWord slot.now why ⊎ NoByte value.now why)) }
 {
     Ok(Command::Mark(word_of(Verb::Mark, slot)?, byte_of(Verb::Mark, value)?))
 }
@@ -104,7 +114,7 @@ fn mark(slot: &str, value: &str) -> Result<Command, Wrong>
 // DISPLAY address count
 fn display(address: &str, count: &str) -> Result<Command, Wrong>
     ensures called { IfOk result (λ c. verb_of c ≡ Verb.Display) }
-    ensures says { IfOk result (λ c. (a : ℕ) × (n : ℕ) × (c ≡ Command.Display a n) × Writes address.now a × Writes count.now n) }
+    ensures says { MatchResult result (λ c. (a : ℕ) × (n : ℕ) × (c ≡ Command.Display a n) × Writes address.now a × Writes count.now n) (IsMisread Verb.Display (λ why. NoWord address.now why ⊎ NoWord count.now why)) }
 {
     Ok(Command::Display(
         word_of(Verb::Display, address)?,
@@ -115,7 +125,7 @@ fn display(address: &str, count: &str) -> Result<Command, Wrong>
 // LOAD address key
 fn load(address: &str, key: &str) -> Result<Command, Wrong>
     ensures called { IfOk result (λ c. verb_of c ≡ Verb.Load) }
-    ensures says { IfOk result (λ c. (a : ℕ) × (k : ℕ) × (c ≡ Command.Load a k) × Writes address.now a × Writes key.now k) }
+    ensures says { MatchResult result (λ c. (a : ℕ) × (k : ℕ) × (c ≡ Command.Load a k) × Writes address.now a × Writes key.now k) (IsMisread Verb.Load (λ why. NoWord address.now why ⊎ NoByte key.now why)) }
 {
     Ok(Command::Load(word_of(Verb::Load, address)?, byte_of(Verb::Load, key)?))
 }
@@ -123,7 +133,7 @@ fn load(address: &str, key: &str) -> Result<Command, Wrong>
 // STORE address key byte
 fn store(address: &str, key: &str, byte: &str) -> Result<Command, Wrong>
     ensures called { IfOk result (λ c. verb_of c ≡ Verb.Store) }
-    ensures says { IfOk result (λ c. (a : ℕ) × (k : ℕ) × (b : ℕ) × (c ≡ Command.Store a k b) × Writes address.now a × Writes key.now k × Writes byte.now b) }
+    ensures says { MatchResult result (λ c. (a : ℕ) × (k : ℕ) × (b : ℕ) × (c ≡ Command.Store a k b) × Writes address.now a × Writes key.now k × Writes byte.now b) (IsMisread Verb.Store (λ why. NoWord address.now why ⊎ (NoByte key.now why ⊎ NoByte byte.now why))) }
 {
     let address = word_of(Verb::Store, address)?;
     let key = byte_of(Verb::Store, key)?;
@@ -134,7 +144,7 @@ fn store(address: &str, key: &str, byte: &str) -> Result<Command, Wrong>
 // KEYS first count
 fn keys(first: &str, count: &str) -> Result<Command, Wrong>
     ensures called { IfOk result (λ c. verb_of c ≡ Verb.Keys) }
-    ensures says { IfOk result (λ c. (f : ℕ) × (n : ℕ) × (c ≡ Command.Keys f n) × Writes first.now f × Writes count.now n) }
+    ensures says { MatchResult result (λ c. (f : ℕ) × (n : ℕ) × (c ≡ Command.Keys f n) × Writes first.now f × Writes count.now n) (IsMisread Verb.Keys (λ why. NoWord first.now why ⊎ NoWord count.now why)) }
 {
     Ok(Command::Keys(word_of(Verb::Keys, first)?, word_of(Verb::Keys, count)?))
 }
@@ -176,6 +186,7 @@ impl Command {
     pub fn of(heap: Global, verb: Verb, words: &[&str]) -> Result<Command, Wrong>
         ensures called { IfOk result (λ c. verb_of c ≡ verb) }
         ensures says { IfOk result (Says words.now) }
+        ensures faulty { IfErr result (Faulty verb words.now) }
     {
         match (verb, words) {
             (Verb::Help, []) => Ok(Command::Help),

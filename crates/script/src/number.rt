@@ -1,5 +1,6 @@
 //! Numbers as an operator writes them: decimal, as `31`, or hexadecimal between quotes, as `X'1F'`.
-ghost use Rattle.std.specs.Prelude.{◌≡◌, ℕ, ◌^◌, ◌≤◌, min, IfOk, MatchOption};
+ghost use Rattle.std.specs.Prelude.{◌≡◌, ℕ, ◌^◌, ◌≤◌, min, MatchOption, MatchResult};
+ghost use Rattle.script.specs.Faults.{IsMisread, Misreads, NoByte, NoWord};
 ghost use Rattle.script.specs.Numbers.{Numeral, ReadsTo, value_of, Writes};
 
 use crate::verb::Verb;
@@ -62,7 +63,7 @@ pub fn number(text: &[u8], largest: u32) -> Result<u32, NotNumber>
 
 // A number up to a largest one among the words behind a verb.
 pub(crate) fn limited(verb: Verb, word: &str, largest: u32) -> Result<u32, Wrong>
-    ensures { IfOk result (λ n. Writes word.now n × (n ≤ largest)) }
+    ensures { MatchResult result (λ n. Writes word.now n × (n ≤ largest)) (IsMisread verb (Misreads word.now largest)) }
 {
     number(word.as_bytes(), largest).map_err(|why| Wrong::Number(verb, why))
 }
@@ -70,14 +71,14 @@ pub(crate) fn limited(verb: Verb, word: &str, largest: u32) -> Result<u32, Wrong
 // A number of 32 bits among the words behind a verb. (One function for both widths would want a trait of its own, by which a
 // clause says what number a `u32` or a `u8` is: that is no plainer than two lines.)
 pub(crate) fn word_of(verb: Verb, word: &str) -> Result<u32, Wrong>
-    ensures { IfOk result (Writes word.now) }
+    ensures { MatchResult result (Writes word.now) (IsMisread verb (NoWord word.now)) }
 {
     limited(verb, word, u32::MAX)
 }
 
 // A number of 8 bits among the words behind a verb.
 pub(crate) fn byte_of(verb: Verb, word: &str) -> Result<u8, Wrong>
-    ensures { IfOk result (Writes word.now) }
+    ensures { MatchResult result (Writes word.now) (IsMisread verb (NoByte word.now)) }
 {
     Ok(limited(verb, word, 255)? as u8)
 }

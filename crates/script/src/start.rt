@@ -1,5 +1,6 @@
 //! What IPL starts a machine with, and the words of IPL that say it.
-ghost use Rattle.std.specs.Prelude.{◌≡◌, true, IfOk, OnOk, codes};
+ghost use Rattle.std.specs.Prelude.{◌≡◌, true, IfErr, IfOk, MatchResult, OnOk, codes};
+ghost use Rattle.script.specs.Faults.{Faulty, PartitionFaulty, StartWordFaulty};
 ghost use Rattle.script.specs.Numbers.{Writes};
 ghost use Rattle.script.specs.Said.{Appends, has_name, Takes, value_for};
 ghost use Rattle.script.specs.Starts.{SaysStart, start_names, WritesPartition};
@@ -31,7 +32,7 @@ struct Words {
 
 // The partition that a value of `partition=` writes: first page, count and key.
 fn partition(value: &str) -> Result<Partition, Wrong>
-    ensures { IfOk result (WritesPartition value.now) }
+    ensures { MatchResult result (WritesPartition value.now) (PartitionFaulty value.now) }
 {
     let (first, rest) = value.split_once(',').ok_or(Wrong::Arguments(Verb::Ipl))?;
     let (count, key) = rest.split_once(',').ok_or(Wrong::Arguments(Verb::Ipl))?;
@@ -50,6 +51,7 @@ impl Words {
         ensures supervisor { OnOk result (Takes Writes (value_for (codes "supervisor") word.now) self.old.supervisor self.new.supervisor) }
         ensures pages { OnOk result (Takes Writes (value_for (codes "pages") word.now) self.old.pages self.new.pages) }
         ensures partitions { OnOk result (Appends WritesPartition (value_for (codes "partition") word.now) self.old.partitions.items self.new.partitions.items) }
+        ensures faulty { IfErr result (StartWordFaulty self.old word.now) }
     {
         let (name, value) = word.split_once('=').ok_or(Wrong::UnknownWord(Verb::Ipl))?;
         match name {
@@ -65,7 +67,8 @@ impl Words {
 impl Start {
     /// The start that the words of IPL say. A number that none of them says is 0.
     pub fn of(heap: Global, words: &[&str]) -> Result<Start, Wrong>
-        ensures { IfOk result (SaysStart words.now) }
+        ensures says { IfOk result (SaysStart words.now) }
+        ensures faulty { IfErr result (Faulty Verb.Ipl words.now) }
     {
         let mut met = Words {
             frames: None,

@@ -1,8 +1,10 @@
 //! What a board is wired from, and the words of WIRE that say it.
-ghost use Rattle.std.specs.Prelude.{◌≡◌, true, IfOk, OnOk, codes};
+ghost use Rattle.std.specs.Prelude.{◌≡◌, true, IfErr, IfOk, IsSome, MatchResult, OnOk, codes};
+ghost use Rattle.script.specs.Faults.{Faulty, SourceFaulty, WiringWordFaulty};
 ghost use Rattle.script.specs.Said.{has_name, Takes, value_for};
 ghost use Rattle.script.specs.Wirings.{Chosen, IsHeld, SaysWiring, Spells, wire_names, WritesSlots};
 ghost use Rattle.script.specs.Words.{IsUnknown, kind_word, policy_word, Reads, translator_word};
+ghost use Rattle.script.specs.declared.wrong.Wrong.{Wrong};
 
 use crate::number::limited;
 use crate::verb::Verb;
@@ -71,7 +73,7 @@ struct Words<'a> {
 
 // Takes in one value of a word that may stand once.
 pub(crate) fn once<T: Drop>(verb: Verb, place: &mut Option<T>, value: T) -> Result<(), Wrong>
-    ensures { OnOk result ((place.old ≡ None) × (place.new ≡ Some value)) }
+    ensures { MatchResult result (λ _. (place.old ≡ None) × (place.new ≡ Some value)) (λ e. (e ≡ Wrong.Twice verb) × IsSome place.old) }
 {
     if place.is_some() {
         return Err(Wrong::Twice(verb));
@@ -135,6 +137,7 @@ impl<'a> Words<'a> {
         ensures kind { OnOk result (Takes (Spells kind_word) (value_for (codes "store") word.now) self.old.kind self.new.kind) }
         ensures slots { OnOk result (Takes WritesSlots (value_for (codes "slots") word.now) self.old.slots self.new.slots) }
         ensures file { OnOk result (Takes IsHeld (value_for (codes "file") word.now) self.old.file self.new.file) }
+        ensures faulty { IfErr result (WiringWordFaulty self.old word.now) }
     {
         let (name, value) = word.split_once('=').ok_or(Wrong::UnknownWord(Verb::Wire))?;
         match name {
@@ -153,7 +156,7 @@ impl<'a> Words<'a> {
 
     // Where the pages come from: slots or a file, and a file for a data set only.
     fn source(&self, heap: Global) -> Result<Source, Wrong>
-        ensures { IfOk result (Chosen self.now.kind self.now.slots self.now.file) }
+        ensures { MatchResult result (Chosen self.now.kind self.now.slots self.now.file) (SourceFaulty self.now.kind self.now.slots self.now.file) }
     {
         match (self.kind, self.slots, self.file) {
             (Some(Kind::Plain), Some(n), None) => Ok(Source::Plain(n)),
@@ -169,7 +172,8 @@ impl<'a> Words<'a> {
 impl Wiring {
     /// The board that the words of WIRE say.
     pub fn of(heap: Global, words: &[&str]) -> Result<Wiring, Wrong>
-        ensures { IfOk result (SaysWiring words.now) }
+        ensures says { IfOk result (SaysWiring words.now) }
+        ensures faulty { IfErr result (Faulty Verb.Wire words.now) }
     {
         let mut met = Words {
             policy: None,
