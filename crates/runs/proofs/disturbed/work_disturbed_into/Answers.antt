@@ -31,10 +31,10 @@ returns g c =
     let given = config_with c.args.start.sizes c.args.start.partitions.now in
     record {
       run = (
-          omega arith,
-          steadily r law given (handing c.args.calls.now) found begun
-          (record { translator = g.met.T.Translator.valid own.translator; policy = g.met.P.Policy.valid own.policy; store = g.met.S.PageStore.valid own.store })
-          (world g.T.Translator g.P.Policy g.S.PageStore c.hand_all.new.machine) _ _ _ c.in_default.ensures.rule c.clear.ensures.items c.hand_all.ensures
-        );
+        omega arith,
+        steadily r law given (handing c.args.calls.now) found begun
+            (record { translator = g.met.T.Translator.valid own.translator; policy = g.met.P.Policy.valid own.policy; store = g.met.S.PageStore.valid own.store })
+            (world g.T.Translator g.P.Policy g.S.PageStore c.hand_all.new.machine) _ _ _ c.in_default.ensures.rule c.clear.ensures.items c.hand_all.ensures,
+      );
       law = steady_of r law;
     }

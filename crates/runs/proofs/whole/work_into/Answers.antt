@@ -28,10 +28,10 @@ returns g c =
     let given = config_with c.args.start.sizes c.args.start.partitions.now in
     record {
       run = (
-          omega arith,
-          lawfully r law given c.args.calls.now found _ _
-          (record { translator = g.met.T.Translator.valid own.translator; policy = g.met.P.Policy.valid own.policy; store = g.met.S.PageStore.valid own.store })
-          _ _ c.in_default.ensures.rule c.clear.ensures.items c.make_all.ensures
-        );
+        omega arith,
+        lawfully r law given c.args.calls.now found _ _
+            (record { translator = g.met.T.Translator.valid own.translator; policy = g.met.P.Policy.valid own.policy; store = g.met.S.PageStore.valid own.store })
+            _ _ c.in_default.ensures.rule c.clear.ensures.items c.make_all.ensures,
+      );
       law = law_of r law;
     }
