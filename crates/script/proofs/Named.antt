@@ -1,11 +1,15 @@
 -- Words of the form name=value: which value a word has for a name, and what is said once.
-use Rattle.std.proofs.Common.{◌≡◌, ℕ, ◌+◌, ◌<◌, ◌≤◌, List, [], ◌∷◌, ◌++◌, length, get_or, take, Option, Some, None, Ok, Err, Result, MatchResult, Bor, OnOk, true, append-nil, refl, ap, ◌∙◌, inl, inr, lit<}
+use Rattle.std.proofs.Common.{◌≡◌, ℕ, ◌+◌, ◌<◌, ◌≤◌, List, [], ◌∷◌, ◌++◌, length, get_or, take, Option, Some, None, Ok, Err, Result, MatchOption, MatchResult, Bor, OnOk, true, append-nil, refl, ap, ◌∙◌, inl, inr, lit<}
 use Rattle.std.specs.Option.{unwrap_or}
 use Rattle.std.specs.List.{AllZip, cons_option}
 use Rattle.std.proofs.lemmas.List.{take_all, take_more}
 use Rattle.std.proofs.lemmas.List.Elements.{All-push, filter_map-append}
 use Rattle.std.proofs.lemmas.Str.Pattern.{IsSplitOnceResult, split_parts}
-use Rattle.script.specs.Said.{AllNamed, Appends, AtMostOnce, has_name, OnceOrZero, Takes, value_for, values}
+use Rattle.script.specs.Said.{AllNamed, Appends, has_name, Once, OnceOrZero, Takes, value_for, values}
+
+-- There is no value, or one, and it says what is held.
+abbrev pub AtMostOnce : {A : Type 0} → (List ℕ → A → Type 0) → List (List ℕ) → Option A → Type 0
+AtMostOnce Says texts held = MatchOption held (texts ≡ []) (Once Says texts)
 
 -- What stands in front of the = and behind it.
 pub cut : (word : List ℕ) (r : Option (Bor (List ℕ) × Bor (List ℕ))) (x : Bor (List ℕ) × Bor (List ℕ)) (name : List ℕ)

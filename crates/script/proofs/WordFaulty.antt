@@ -8,9 +8,10 @@ use Rattle.std.specs.Cmp.Lexicographic.{same_text}
 use Rattle.std.proofs.Math.ListN.{take-append-drop}
 use Rattle.std.proofs.lemmas.List.Elements.{filter_map-append}
 use Rattle.std.proofs.lemmas.Str.Pattern.{IsSplitOnceResult, split_after, split_once_first}
+use Rattle.script.proofs.Named.{AtMostOnce}
 use Rattle.script.specs.Faults.{Again, Faulty, HasComma, is_comma, IsMisread, NoneChosen, NoPartition, SourceFaulty, WiringMisreads, WiringUnknown, WiringWordFaulty, PartitionFaulty, PartitionMisreads, Repeats, StartMisreads, StartWordFaulty}
 use Rattle.script.specs.Numbers.{Writes}
-use Rattle.script.specs.Said.{AtMostOnce, Once, value_for, values}
+use Rattle.script.specs.Said.{Once, value_for, values}
 use Rattle.script.specs.Wirings.{IsHeld, Names, SaysSource, Spells, WritesSlots}
 use Rattle.script.specs.Words.{kind_word, policy_word, translator_word}
 use Rattle.script.specs.declared.number.NotNumber.{NotNumber}

@@ -24,10 +24,6 @@ AllNamed names words = All (λ w. has_name names w.now ≡ true) words
 abbrev pub Once : {A : Type 0} → (List ℕ → A → Type 0) → List (List ℕ) → A → Type 0
 Once Says texts x = (text : List ℕ) × (texts ≡ text ∷ []) × Says text x
 
--- There is no value, or one, and it says what is held.
-abbrev pub AtMostOnce : {A : Type 0} → (List ℕ → A → Type 0) → List (List ℕ) → Option A → Type 0
-AtMostOnce Says texts held = MatchOption held (texts ≡ []) (Once Says texts)
-
 -- There is one value, and it says the number; or there is none, and the number is 0.
 abbrev pub OnceOrZero : (List ℕ → ℕ → Type 0) → List (List ℕ) → ℕ → Type 0
 OnceOrZero Says texts n = ((texts ≡ []) × (n ≡ 0)) ⊎ Once Says texts n

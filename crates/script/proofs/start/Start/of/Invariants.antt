@@ -1,7 +1,8 @@
 use Rattle.std.proofs.Common.{codes, take}
 use Rattle.std.specs.List.{AllZip}
 use Rattle.script.specs.Numbers.{Writes}
-use Rattle.script.specs.Said.{AllNamed, AtMostOnce, values}
+use Rattle.script.specs.Said.{AllNamed, values}
+use Rattle.script.proofs.Named.{AtMostOnce}
 use Rattle.script.specs.Starts.{start_names, WritesPartition}
 use Rattle.script.proofs.start.Start.of.Given as goal
 

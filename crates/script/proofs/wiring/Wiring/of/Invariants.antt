@@ -1,6 +1,7 @@
 use Rattle.std.proofs.Common.{codes, take}
-use Rattle.script.specs.Said.{AllNamed, AtMostOnce, values}
+use Rattle.script.specs.Said.{AllNamed, values}
 use Rattle.script.specs.Wirings.{IsHeld, Spells, wire_names, WritesSlots}
+use Rattle.script.proofs.Named.{AtMostOnce}
 use Rattle.script.specs.Words.{kind_word, policy_word, translator_word}
 use Rattle.script.proofs.wiring.Wiring.of.Given as goal
 
