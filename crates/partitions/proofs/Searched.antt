@@ -22,6 +22,9 @@ module _ (xs qs : List Partition) (e : qs ≡ xs) (few : length xs ≤ 5) where
   front : take (length xs) copied ≡ qs
   front = take_at qs (drop (length xs) (replicate 5 spare)) (length xs) (ap length e)
 
+  pub copied_taken : take (length xs) copied ≡ xs
+  copied_taken = front ∙ e
+
   behind : (n : ℕ) → n ≡ length xs → drop (length xs) (replicate 5 spare) ≡ replicate (5 - n) spare
   behind n d = drop-replicate (length xs) 5 spare ∙ ap (λ k. replicate (5 - k) spare) (sym d)
 

@@ -1,5 +1,6 @@
--- An array of five places of which the first are in use.
-use Rattle.std.specs.Prelude.{◌≡◌, ℕ, ◌-◌, ◌≤◌, List, ◌++◌, length, replicate, take}
+-- An array of five places of which the first are in use, and partitions that have no page in common.
+use Rattle.std.specs.Prelude.{◌≡◌, ℕ, ◌+◌, ◌-◌, ◌≤◌, List, ◌++◌, length, replicate, take}
+use Rattle.std.specs.List.{AllPairs}
 use Rattle.std.proofs.Common.{sym, ap, ◌∙◌, arith}
 use Rattle.std.proofs.lemmas.List.{length-take-le}
 use Rattle.model.specs.declared.shape.Partition.{Partition}
@@ -23,3 +24,7 @@ pub made_same : {X : Type 0} (make : List Partition → ℕ → X) (list : List 
     → make (padded (take count list)) (length (take count list)) ≡ make list count
 made_same make list count h =
     ap (λ l. make l (length (take count list))) (sym h.rest) ∙ ap (make list) (length-take-le count list (let f = h.few in let l = h.long in omega arith))
+
+-- No two partitions have a page in common: each ends before any later one starts.
+abbrev pub Apart : List Partition → Type 0
+Apart list = AllPairs (λ a b. a.first + a.count ≤ b.first) list

@@ -1,7 +1,8 @@
 //! The list of partitions, in an array of five: how it is tested, kept and asked.
-ghost use Rattle.std.specs.Prelude.{◌≡◌, ◌+◌, ◌≤◌, ◌&&◌, leb, [], length, if◌then◌else◌, Some, None, nat_le, nat_lt};
+ghost use Rattle.std.specs.Prelude.{◌≡◌, ◌+◌, ◌≤◌, ◌&&◌, leb, [], length, if◌then◌else◌, Some, None, IfSome, nat_le, nat_lt};
 ghost use Rattle.model.specs.Ipl.{in_order};
 ghost use Rattle.model.specs.Layout.{key_of};
+ghost use Rattle.partitions.specs.Partitions.{Apart};
 
 use model::shape::Partition;
 use std::marker::Model;
@@ -96,9 +97,10 @@ impl Partitions {
     }
 
     /// The partitions of a list: one to five, each with pages and a key from 1 to 15, none under page `supervisor`, none
-    /// past page `pages`, and each after the one before. None where the list is not such.
+    /// past page `pages`, and each after the one before, so that no page is in two. None where the list is not such.
     pub fn checked(list: &[Partition], supervisor: u32, pages: u32) -> Option<Partitions>
-        ensures { result ≡ (if leb 1 (length list.now) && (nat_le (length list.now) 5 && in_order supervisor pages list.now) then Some list.now else None) }
+        ensures answer { result ≡ (if leb 1 (length list.now) && (nat_le (length list.now) 5 && in_order supervisor pages list.now) then Some list.now else None) }
+        ensures apart { IfSome result Apart }
     {
         if list.is_empty() || list.len() > 5 || !in_order(list, supervisor, pages) {
             return None;
