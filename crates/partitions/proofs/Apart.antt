@@ -25,7 +25,7 @@ starts_from n v (a ∷ rest) e =
     let one = first_of_all n v a rest e in
     let low : n ≤ a.first = one.0 in
     All-cons (λ b. n ≤ b.first) a rest low
-        (λ k d lt. let behind : a.first + a.count ≤ (get_or rest k d).first = starts_from (a.first + a.count) v rest one.1 k d lt in omega arith)
+    (λ k d lt. let behind : a.first + a.count ≤ (get_or rest k d).first = starts_from (a.first + a.count) v rest one.1 k d lt in omega arith)
 
 pub apart : (n v : ℕ) (list : List Partition) → in_order n v list ≡ true → Apart list
 apart n v [] e = λ i j d below inside. omega arith
