@@ -1,4 +1,4 @@
--- The two wirings, refuted by computing.
+-- The two page faults, refuted by computing.
 use Rattle.std.proofs.Common.{◌≡◌, ℕ, List, [], ◌∷◌, Some, None, Ok, Err, Option, Result, refl}
 use Rattle.model.specs.declared.calls.Reply.{Reply}
 use Rattle.model.specs.declared.calls.Reply.TheVariants.{Byte, Done}
@@ -10,7 +10,7 @@ use Rattle.model.specs.Flat.{flat_fix, flat_free, flat_load, flat_store}
 use Rattle.model.specs.Refusals.{decode_fix, decode_load, decode_store}
 use Rattle.model.specs.Steps.{brought, byte_answer, done_answer, fix, fixing, load, loading, store, storing, worked}
 use Rattle.cases.proofs.Computed.{opening}
-use Rattle.cases.specs.Wirings.{Refuted, Wirings, brought_by, by_name, by_name_calls, fixing_by, loading_by, no_forget, no_forget_calls, sound, started, storing_by, three, two, worked_by}
+use Rattle.cases.specs.LosingFaults.{LosingFaults, Refuted, brought_by, by_name, by_name_calls, fixing_by, loading_by, no_forget, no_forget_calls, sound, started, storing_by, three, two, worked_by}
 use Rattle.cases.specs.Worked.{Machine, parts}
 
 brought_same : (p key : ℕ) (w : Machine) (o : Option ℕ) → brought_by sound p key w o ≡ brought parts p key w o
@@ -55,5 +55,5 @@ no_forget_refuted : Refuted no_forget three 3 no_forget_calls (Ok (Byte 0) ∷ O
 unfolding opening started flat_load flat_store flat_fix flat_free
 no_forget_refuted = record { answered = refl; wrongly = refl; rightly = refl; flatly = refl; differs = λ e. no_forget_apart e }
 
-pub wirings : Wirings
-wirings = record { same = same; by_name_refuted = by_name_refuted; no_forget_refuted = no_forget_refuted }
+pub losing_faults : LosingFaults
+losing_faults = record { same = same; by_name_refuted = by_name_refuted; no_forget_refuted = no_forget_refuted }

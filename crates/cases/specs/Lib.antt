@@ -1,4 +1,4 @@
 pub mod Worked
 pub mod Cases
-pub mod Wirings
+pub mod LosingFaults
 pub mod Governed

@@ -25,13 +25,13 @@ left_none true false n e l = refl
 left_none false h n e l = refl
 
 module _ {M : Type 0} (r : Rules M) (law : Lawful r) where
-  good_after : (c : Call) (m : M) (marks : List ℕ) → r.good m → r.good (called_of r c m marks).left
-  good_after (Enter f) m marks good = law.enter_good m f good
-  good_after (Return f bits) m marks good = law.back_good m f bits.referred bits.changed good
-  good_after (Leave f) m marks good = law.leave_good m f good
-  good_after (Touch f) m marks good = law.touch_good m f good
-  good_after Empty m marks good = law.clear_good m good
-  good_after Take m marks good = law.take_good m marks good
+  good_after : (c : Call) (m : M) (keys : List ℕ) → r.good m → r.good (called_of r c m keys).left
+  good_after (Enter f) m keys good = law.enter_good m f good
+  good_after (Return f bits) m keys good = law.return_good m f bits.referred bits.changed good
+  good_after (Leave f) m keys good = law.leave_good m f good
+  good_after (Touch f) m keys good = law.touch_good m f good
+  good_after Empty m keys good = law.clear_good m good
+  good_after Take m keys good = law.take_good m keys good
 
   -- Leave of g, or of another frame
   leave_told : (m : M) (f g : ℕ) → r.good m → holds r (r.leave m f) g ≡ cond (eqb g f && holds r m f) false (holds r m g)
@@ -47,31 +47,31 @@ module _ {M : Type 0} (r : Rules M) (law : Lawful r) where
   picks_told m left None g p = ap (λ n. eqb n 1) (p.1 g ∙ sym (p.0 g))
   picks_told m left (Some f) g p = set_none (eqb g f) (r.times m g) (r.times left g) (p.1 g)
 
-  told_after : (c : Call) (m : M) (marks : List ℕ) (g : ℕ) → r.good m
-      → holds r (called_of r c m marks).left g ≡ held_after g (holds r m g) c (called_of r c m marks).answer
-  told_after (Enter f) m marks g good = set_one (eqb g f && free r m f) (r.times m g) (r.times (r.enter m f) g) (law.enter_times m f g good)
-  told_after (Return f bits) m marks g good =
-      set_one (eqb g f && free r m f) (r.times m g) (r.times (r.give_back m f bits.referred bits.changed) g) (law.back_times m f g bits.referred bits.changed good)
-  told_after (Leave f) m marks g good = leave_told m f g good
-  told_after (Touch f) m marks g good = ap (λ n. eqb n 1) (law.touch_times m f g good)
-  told_after Empty m marks g good = ap (λ n. eqb n 1) (law.clear_times m g good)
-  told_after Take m marks g good = picks_told m (r.take m marks).left (r.take m marks).frame g (law.take_picks m marks good)
+  told_after : (c : Call) (m : M) (keys : List ℕ) (g : ℕ) → r.good m
+      → holds r (called_of r c m keys).left g ≡ held_after g (holds r m g) c (called_of r c m keys).answer
+  told_after (Enter f) m keys g good = set_one (eqb g f && free r m f) (r.times m g) (r.times (r.enter m f) g) (law.enter_times m f g good)
+  told_after (Return f bits) m keys g good =
+      set_one (eqb g f && free r m f) (r.times m g) (r.times (r.return_frame m f bits.referred bits.changed) g) (law.return_times m f g bits.referred bits.changed good)
+  told_after (Leave f) m keys g good = leave_told m f g good
+  told_after (Touch f) m keys g good = ap (λ n. eqb n 1) (law.touch_times m f g good)
+  told_after Empty m keys g good = ap (λ n. eqb n 1) (law.clear_times m g good)
+  told_after Take m keys g good = picks_told m (r.take m keys).left (r.take m keys).frame g (law.take_picks m keys good)
 
-  run_good : (cs : List Call) (m : M) (marks : List ℕ) → r.good m → r.good (run r cs m marks).left
-  run_good [] m marks good = good
-  run_good (c ∷ cs) m marks good = run_good cs (called_of r c m marks).left (called_of r c m marks).keys (good_after c m marks good)
+  run_good : (cs : List Call) (m : M) (keys : List ℕ) → r.good m → r.good (run r cs m keys).left
+  run_good [] m keys good = good
+  run_good (c ∷ cs) m keys good = run_good cs (called_of r c m keys).left (called_of r c m keys).keys (good_after c m keys good)
 
-  run_told : (cs : List Call) (m : M) (marks : List ℕ) (g : ℕ) → r.good m → holds r (run r cs m marks).left g ≡ held_by g (holds r m g) cs (run r cs m marks).answers
-  run_told [] m marks g good = refl
-  run_told (c ∷ cs) m marks g good =
-      run_told cs (called_of r c m marks).left (called_of r c m marks).keys g (good_after c m marks good)
-      ∙ ap (λ b. held_by g b cs (run r cs (called_of r c m marks).left (called_of r c m marks).keys).answers) (told_after c m marks g good)
+  run_told : (cs : List Call) (m : M) (keys : List ℕ) (g : ℕ) → r.good m → holds r (run r cs m keys).left g ≡ held_by g (holds r m g) cs (run r cs m keys).answers
+  run_told [] m keys g good = refl
+  run_told (c ∷ cs) m keys g good =
+      run_told cs (called_of r c m keys).left (called_of r c m keys).keys g (good_after c m keys good)
+      ∙ ap (λ b. held_by g b cs (run r cs (called_of r c m keys).left (called_of r c m keys).keys).answers) (told_after c m keys g good)
 
-  pub held_as_told : (cs : List Call) (m : M) (marks : List ℕ) → r.good m → HeldAsTold r m cs (run r cs m marks).answers (run r cs m marks).left
-  held_as_told cs m marks good g = (law.once (run r cs m marks).left g (run_good cs m marks good), run_told cs m marks g good)
+  pub held_as_told : (cs : List Call) (m : M) (keys : List ℕ) → r.good m → HeldAsTold r m cs (run r cs m keys).answers (run r cs m keys).left
+  held_as_told cs m keys good g = (law.once (run r cs m keys).left g (run_good cs m keys good), run_told cs m keys g good)
 
   -- the theorem, at what the loop leaves
-  pub told_at : (cs : List Call) (m left : M) (marks : List ℕ) (says : List Answer) → r.good m
-      → says ≡ (run r cs m marks).answers → left ≡ (run r cs m marks).left → HeldAsTold r m cs says left
-  told_at cs m left marks says good a b =
-      subst (λ x. HeldAsTold r m cs x left) (sym a) (subst (HeldAsTold r m cs (run r cs m marks).answers) (sym b) (held_as_told cs m marks good))
+  pub told_at : (cs : List Call) (m left : M) (keys : List ℕ) (says : List Answer) → r.good m
+      → says ≡ (run r cs m keys).answers → left ≡ (run r cs m keys).left → HeldAsTold r m cs says left
+  told_at cs m left keys says good a b =
+      subst (λ x. HeldAsTold r m cs x left) (sym a) (subst (HeldAsTold r m cs (run r cs m keys).answers) (sym b) (held_as_told cs m keys good))

@@ -15,7 +15,7 @@ pub record Rules (M : Type 0) : Type 1 where
   pub times : M → ℕ → ℕ
   -- what Enter, Return (with reference and change bit), Leave, Touch and Empty leave
   pub enter : M → ℕ → M
-  pub give_back : M → ℕ → Bool → Bool → M
+  pub return_frame : M → ℕ → Bool → Bool → M
   pub leave : M → ℕ → M
   pub touch : M → ℕ → M
   pub clear : M → M
@@ -46,9 +46,9 @@ pub record Lawful {M : Type 0} (r : Rules M) : Type 0 where
   pub small : (m : M) (f : ℕ) → r.good m → 256 ≤ f → r.times m f ≡ 0
   pub enter_good : (m : M) (f : ℕ) → r.good m → r.good (r.enter m f)
   pub enter_times : (m : M) (f g : ℕ) → r.good m → r.times (r.enter m f) g ≡ cond (g == f && free r m f) 1 (r.times m g)
-  pub back_good : (m : M) (f : ℕ) (ref chg : Bool) → r.good m → r.good (r.give_back m f ref chg)
-  pub back_times : (m : M) (f g : ℕ) (ref chg : Bool) → r.good m
-      → r.times (r.give_back m f ref chg) g ≡ cond (g == f && free r m f) 1 (r.times m g)
+  pub return_good : (m : M) (f : ℕ) (ref chg : Bool) → r.good m → r.good (r.return_frame m f ref chg)
+  pub return_times : (m : M) (f g : ℕ) (ref chg : Bool) → r.good m
+      → r.times (r.return_frame m f ref chg) g ≡ cond (g == f && free r m f) 1 (r.times m g)
   pub leave_good : (m : M) (f : ℕ) → r.good m → r.good (r.leave m f)
   pub leave_times : (m : M) (f g : ℕ) → r.good m → r.times (r.leave m f) g ≡ cond (g == f) 0 (r.times m g)
   pub touch_good : (m : M) (f : ℕ) → r.good m → r.good (r.touch m f)

@@ -13,12 +13,12 @@ pub record Called (M : Type 0) : Type 0 where
   pub left : M
 
 abbrev pub called_of : {M : Type 0} → Rules M → Call → M → List ℕ → Called M
-called_of r (Enter f) m marks = record { answer = Said (free r m f); keys = marks; left = r.enter m f }
-called_of r (Return f bits) m marks = record { answer = Said (free r m f); keys = marks; left = r.give_back m f bits.referred bits.changed }
-called_of r (Leave f) m marks = record { answer = Said (holds r m f); keys = marks; left = r.leave m f }
-called_of r (Touch f) m marks = record { answer = Done; keys = marks; left = r.touch m f }
-called_of r Empty m marks = record { answer = Done; keys = marks; left = r.clear m }
-called_of r Take m marks = record { answer = TookFrame (r.take m marks).frame; keys = (r.take m marks).keys; left = (r.take m marks).left }
+called_of r (Enter f) m keys = record { answer = Said (free r m f); keys = keys; left = r.enter m f }
+called_of r (Return f bits) m keys = record { answer = Said (free r m f); keys = keys; left = r.return_frame m f bits.referred bits.changed }
+called_of r (Leave f) m keys = record { answer = Said (holds r m f); keys = keys; left = r.leave m f }
+called_of r (Touch f) m keys = record { answer = Done; keys = keys; left = r.touch m f }
+called_of r Empty m keys = record { answer = Done; keys = keys; left = r.clear m }
+called_of r Take m keys = record { answer = TookFrame (r.take m keys).frame; keys = (r.take m keys).keys; left = (r.take m keys).left }
 
 -- what a list of calls answers and leaves
 pub record Ran (M : Type 0) : Type 0 where
@@ -26,10 +26,10 @@ pub record Ran (M : Type 0) : Type 0 where
   pub left : M
 
 abbrev pub run : {M : Type 0} → Rules M → List Call → M → List ℕ → Ran M
-run r [] m marks = record { answers = []; left = m }
-run r (c ∷ cs) m marks = record {
-  answers = (called_of r c m marks).answer ∷ (run r cs (called_of r c m marks).left (called_of r c m marks).keys).answers;
-  left = (run r cs (called_of r c m marks).left (called_of r c m marks).keys).left;
+run r [] m keys = record { answers = []; left = m }
+run r (c ∷ cs) m keys = record {
+  answers = (called_of r c m keys).answer ∷ (run r cs (called_of r c m keys).left (called_of r c m keys).keys).answers;
+  left = (run r cs (called_of r c m keys).left (called_of r c m keys).keys).left;
 }
 
 -- The frame g is held after a call, as the answer says, if it was held before or not.

@@ -31,7 +31,7 @@ pub trait Policy {
     /// Holds the frame from now on, as one with these reference and change bits. It answers as `enter` does.
     fn return_frame(&mut self, frame: u16, bits: KeyBits) -> bool
         ensures answer { result ≡ free rules (model self.old) frame }
-        ensures after { model self.new ≡ rules.give_back (model self.old) frame bits.referred bits.changed };
+        ensures after { model self.new ≡ rules.return_frame (model self.old) frame bits.referred bits.changed };
 
     /// Drops the frame. The answer is no, and nothing changes, if it is not held.
     fn leave(&mut self, frame: u16) -> bool
@@ -49,7 +49,7 @@ pub trait Policy {
     /// Picks a held frame and drops it; none, if it holds none. It may turn reference bits off in the storage keys.
     fn take(&mut self, keys: &mut [u8; 256]) -> Option<u8>
         ensures answer { result ≡ (rules.take (model self.old) keys.old).frame }
-        ensures marks { keys.new ≡ (rules.take (model self.old) keys.old).keys }
+        ensures keys { keys.new ≡ (rules.take (model self.old) keys.old).keys }
         ensures after { model self.new ≡ (rules.take (model self.old) keys.old).left };
 
     /// what is certain of every policy

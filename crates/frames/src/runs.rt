@@ -8,7 +8,7 @@ use std::alloc::{AllocError, Global};
 /// Makes one call.
 pub fn make<P: Policy>(policy: &mut P, keys: &mut [u8; 256], call: Call) -> Answer
     ensures answer { result ≡ (called_of P.Policy.rules call (P.Policy.model policy.old) keys.old).answer }
-    ensures marks { keys.new ≡ (called_of P.Policy.rules call (P.Policy.model policy.old) keys.old).keys }
+    ensures keys { keys.new ≡ (called_of P.Policy.rules call (P.Policy.model policy.old) keys.old).keys }
     ensures after { P.Policy.model policy.new ≡ (called_of P.Policy.rules call (P.Policy.model policy.old) keys.old).left }
 {
     match call {

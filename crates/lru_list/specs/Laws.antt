@@ -69,9 +69,9 @@ once_touched xs f o g = let t = touch_times xs f g in (omega (arith, (o g).0), �
 pub once_rest : (f : ℕ) (xs : List ℕ) → Once (f ∷ xs) → Once xs
 once_rest f xs o g = (omega (arith, (o g).0), λ big. omega (arith, (o g).1 big))
 
-picks : (xs marks : List ℕ) → Once xs → Picks lru_rules xs (taken xs marks).left (taken xs marks).frame
-picks [] marks o = (λ g. refl, λ g. refl)
-picks (f ∷ xs) marks o =
+picks : (xs keys : List ℕ) → Once xs → Picks lru_rules xs (taken xs keys).left (taken xs keys).frame
+picks [] keys o = (λ g. refl, λ g. refl)
+picks (f ∷ xs) keys o =
     let s = share_same f f refl in
     let none : times_in f xs ≡ 0 = omega (arith, (o f).0) in (
       omega arith,
@@ -82,13 +82,13 @@ picks (f ∷ xs) marks o =
       ],
     )
 
-take_good : (xs marks : List ℕ) → Once xs → Once (taken xs marks).left
-take_good [] marks o = o
-take_good (f ∷ xs) marks o = once_rest f xs o
+take_good : (xs keys : List ℕ) → Once xs → Once (taken xs keys).left
+take_good [] keys o = o
+take_good (f ∷ xs) keys o = once_rest f xs o
 
-same_keys : (xs marks : List ℕ) → KeysKept marks (taken xs marks).keys
-same_keys [] marks = record { long = refl; each = λ i. inl refl }
-same_keys (f ∷ xs) marks = record { long = refl; each = λ i. inl refl }
+same_keys : (xs keys : List ℕ) → KeysKept keys (taken xs keys).keys
+same_keys [] keys = record { long = refl; each = λ i. inl refl }
+same_keys (f ∷ xs) keys = record { long = refl; each = λ i. inl refl }
 
 pub lru_lawful : Lawful lru_rules
 lru_lawful = record {
@@ -96,8 +96,8 @@ lru_lawful = record {
   small = λ m f o. (o f).1;
   enter_good = λ m f o. once_entered m f o;
   enter_times = λ m f g o. enter_times m f g;
-  back_good = λ m f ref chg o. once_entered m f o;
-  back_times = λ m f g ref chg o. enter_times m f g;
+  return_good = λ m f ref chg o. once_entered m f o;
+  return_times = λ m f g ref chg o. enter_times m f g;
   leave_good = λ m f o. once_without m f o;
   leave_times = λ m f g o. leave_times m f g;
   touch_good = λ m f o. once_touched m f o;
@@ -106,5 +106,5 @@ lru_lawful = record {
   clear_times = λ m g o. refl;
   take_good = take_good;
   take_picks = picks;
-  take_keys = λ m marks o. same_keys m marks;
+  take_keys = λ m keys o. same_keys m keys;
 }

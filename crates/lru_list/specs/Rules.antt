@@ -13,15 +13,15 @@ touched xs f = cond (times_in f xs == 1) (without f xs ++ (f ∷ [])) xs
 
 -- the first frame is taken, and the keys are kept
 abbrev pub taken : List ℕ → List ℕ → Took (List ℕ)
-taken [] marks = record { frame = None; keys = marks; left = [] }
-taken (f ∷ xs) marks = record { frame = Some f; keys = marks; left = xs }
+taken [] keys = record { frame = None; keys = keys; left = [] }
+taken (f ∷ xs) keys = record { frame = Some f; keys = keys; left = xs }
 
 abbrev pub lru_rules : Rules (List ℕ)
 lru_rules = record {
   good = Once;
   times = λ xs f. times_in f xs;
   enter = entered;
-  give_back = λ xs f referred changed. entered xs f;
+  return_frame = λ xs f referred changed. entered xs f;
   leave = λ xs f. without f xs;
   touch = touched;
   clear = λ xs. [];

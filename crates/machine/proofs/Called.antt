@@ -3,7 +3,7 @@ use Rattle.std.proofs.Common.{◌≡◌, ℕ, ◌/◌, get_or, Some, Ok, unwrap_
 use Rattle.model.specs.declared.shape.Request.{Request}
 use Rattle.model.proofs.Decoded.{Reached, fix_ok, load_ok, store_ok}
 use Rattle.model.specs.Refusals.{decode_fix, decode_free, decode_load, decode_store}
-use Rattle.model.specs.Steps.{asked, brought, brought_frame, fix, fixed_in1, fixing, free, freed_in, freeing, load, loaded_in, loading, store, stored_in, storing}
+use Rattle.model.specs.Steps.{asked, brought, brought_frame, fix, fixed_once, fixing, free, freed_in, freeing, load, loaded_in, loading, store, stored_in, storing}
 use Rattle.model.specs.World.{Parts, World}
 use Rattle.paging.specs.Seen.{access_for}
 use Rattle.state.specs.Bare.{bare}
@@ -37,7 +37,7 @@ module _ {T P S : Type 0} (r : Parts T P S) (w : World T P S) where
         let c = come_in (a / 2048) (store_ok w a key q (sym e)).0 in
         rw (l, frame, c) (ap (storing r a byte w) e)
 
-    pub fix_done : (p : ℕ) (w₂ : World T P S) → Ok q ≡ decode_fix (tested w) p → w₂ ≡ fixed_in1 r f w₁ → (Ok tt, w₂) ≡ fix r p w
+    pub fix_done : (p : ℕ) (w₂ : World T P S) → Ok q ≡ decode_fix (tested w) p → w₂ ≡ fixed_once r f w₁ → (Ok tt, w₂) ≡ fix r p w
     unfolding fix decode_fix
     fix_done p w₂ e l =
         let c = come_in p (fix_ok w p q (sym e)).0 in

@@ -1,6 +1,6 @@
 //! What a call does to the frame of its page.
 ghost use Rattle.std.specs.Prelude.{◌≡◌, ℕ, ◌-◌, List, slice_index};
-ghost use Rattle.model.specs.Steps.{asked, change_off, change_on, fixed_in1, freed_in, loaded_in, settled_in, stored_in, swept};
+ghost use Rattle.model.specs.Steps.{asked, change_off, change_on, fixed_once, freed_in, loaded_in, settled_in, stored_in, swept};
 ghost use Rattle.machine.specs.Machine.{rules, with_translator, world};
 
 use crate::Machine;
@@ -66,7 +66,7 @@ impl<T: Translator, P: Policy, S: PageStore> Machine<T, P, S> {
 
     // Fixed once more: at 1 the frame leaves the policy.
     pub(crate) fn fix_frame(&mut self, frame: u8)
-        ensures { (s : List ℕ) → world T.Translator P.Policy S.PageStore self.new s ≡ fixed_in1 (rules T.Translator P.Policy S.PageStore) frame (world T.Translator P.Policy S.PageStore self.old s) }
+        ensures { (s : List ℕ) → world T.Translator P.Policy S.PageStore self.new s ≡ fixed_once (rules T.Translator P.Policy S.PageStore) frame (world T.Translator P.Policy S.PageStore self.old s) }
     {
         if self.own.state.record(frame).fixes == 0 {
             self.own.policy.leave(u16::from(frame));

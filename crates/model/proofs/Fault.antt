@@ -101,7 +101,7 @@ module _ {T P S : Type 0} (r : Parts T P S) (law : LawfulParts r) (c : Config) (
                 let e = b.paired.each p start (law.translator.forget_adds_none t (page_in rs f) p start b.good_translator h) in
                 let other : e.0 ≡ f → ⊥ = λ z.
                 let same : page_in rs f ≡ p = ap (page_in rs) (sym z) ∙ e.2 in
-                false≢true (sym (law.translator.forget_ends t (page_in rs f) start b.good_translator) ∙ subst (λ x. r.translator.vouches (r.translator.forget t (page_in rs f)) x start ≡ true) (sym same) h) in
+                false≢true (sym (law.translator.forget_ends t (page_in rs f) start b.good_translator) ∙ subst (λ x. r.translator.has_pair (r.translator.forget t (page_in rs f)) x start ≡ true) (sym same) h) in
                 (e.0, e.1, page_there rs f v e.0 other ∙ e.2, e.3, e.4);
           };
         }

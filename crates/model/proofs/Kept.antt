@@ -13,7 +13,7 @@ use Rattle.model.specs.declared.shape.Request.{Request}
 use Rattle.model.specs.Law.{Consistent, Holding, Pageable, Steady, Told, ToldBy, first_refusal, handed}
 use Rattle.model.specs.Layout.{entry_at, entry_should, fixes_in, no_page, page_in, segment_at, segment_entries, segment_word, segments}
 use Rattle.model.specs.Refusals.{decode_fix, decode_free, decode_load, decode_purge, decode_settle, decode_store, fixes_of, where_is}
-use Rattle.model.specs.Steps.{brought, byte_answer, done_answer, brought_frame, change_off, change_on, fix, fixed_in1, fixing, free, freed_in, freeing, load, loaded_in, loading, purge, purged, purging, settle, settled_in, settling, store, stored_in, storing, sweeping, swept, worked}
+use Rattle.model.specs.Steps.{brought, byte_answer, done_answer, brought_frame, change_off, change_on, fix, fixed_once, fixing, free, freed_in, freeing, load, loaded_in, loading, purge, purged, purging, settle, settled_in, settling, store, stored_in, storing, sweeping, swept, worked}
 use Rattle.model.specs.World.{LawfulParts, Parts, World}
 use Rattle.model.proofs.Decoded.{fix_ok, free_ok, load_ok, purge_ok, settle_ok, store_ok}
 use Rattle.model.proofs.Fault.{Body, body, body_keys, body_out, whole}
@@ -27,13 +27,13 @@ use Rattle.translation.specs.Translator as translators
 
 module _ {T P S : Type 0} (r : Parts T P S) (law : LawfulParts r) where
   -- the translator asked for an address whose page is ready, the frame's key marked, the policy told
-  module _ (w next : World T P S) (a key f : ℕ) (d : Ready r (a / 2048) key w f next) (mark : ℕ)
-      (same : access_of mark ≡ access_of (get_or next.keys f 0)) where
-    marked_body : Body r next.config (set next.keys f mark) next.records (r.translator.translate next.translator next.storage a).left next.store
-    marked_body =
+  module _ (w next : World T P S) (a key f : ℕ) (d : Ready r (a / 2048) key w f next) (new_key : ℕ)
+      (same : access_of new_key ≡ access_of (get_or next.keys f 0)) where
+    keyed_body : Body r next.config (set next.keys f new_key) next.records (r.translator.translate next.translator next.storage a).left next.store
+    keyed_body =
         let k = d.brought.consistent in
-        let b = body_keys r law next.config k.fits next.keys (set next.keys f mark) next.records next.translator next.store (body r next k)
-        (length-set next.keys f mark) (get_or-set_alike access_of next.keys f mark 0 same) in
+        let b = body_keys r law next.config k.fits next.keys (set next.keys f new_key) next.records next.translator next.store (body r next k)
+        (length-set next.keys f new_key) (get_or-set_alike access_of next.keys f new_key 0 same) in
         record {
           good_translator = law.translator.translate_good next.translator next.storage a k.good.translator;
           good_store = b.good_store;
@@ -54,7 +54,7 @@ module _ {T P S : Type 0} (r : Parts T P S) (law : LawfulParts r) where
   loaded_own w next a key f d =
       let k = d.brought.consistent in
       let m = reference_on (get_or next.keys f 0) in
-      whole r (loaded_in r a f next) k.fits (marked_body w next a key f d m (access_on (get_or next.keys f 0)))
+      whole r (loaded_in r a f next) k.fits (keyed_body w next a key f d m (access_on (get_or next.keys f 0)))
       (law.policy.touch_good next.policy f k.good.policy) (touched w next a key f d m (access_on (get_or next.keys f 0)))
 
   pub stored_own : (w next : World T P S) (a byte key f : ℕ) → Ready r (a / 2048) key w f next → Consistent r (stored_in r a byte f next)
@@ -62,7 +62,7 @@ module _ {T P S : Type 0} (r : Parts T P S) (law : LawfulParts r) where
       let k = d.brought.consistent in
       let m = change_on (reference_on (get_or next.keys f 0)) in
       let same = access_change_on (reference_on (get_or next.keys f 0)) ∙ access_on (get_or next.keys f 0) in
-      whole r (stored_in r a byte f next) k.fits (marked_body w next a key f d m same)
+      whole r (stored_in r a byte f next) k.fits (keyed_body w next a key f d m same)
       (law.policy.touch_good next.policy f k.good.policy) (touched w next a key f d m same)
 
   -- the count of a frame that has a page, changed
@@ -113,7 +113,7 @@ module _ {T P S : Type 0} (r : Parts T P S) (law : LawfulParts r) where
   counted_on (suc x) = omega arith
 
   -- a page fixed once more
-  pub fixed_own : (w : World T P S) → Consistent r w → (f : ℕ) → Pageable w.config f → (page_in w.records f ≡ no_page → ⊥) → Consistent r (fixed_in1 r f w)
+  pub fixed_own : (w : World T P S) → Consistent r w → (f : ℕ) → Pageable w.config f → (page_in w.records f ≡ no_page → ⊥) → Consistent r (fixed_once r f w)
   fixed_own w k f fp ne =
       let n = min 255 (fixes_in w.records f + 1) in
       let some : 0 < n = counted_on (fixes_in w.records f) in
@@ -129,7 +129,7 @@ module _ {T P S : Type 0} (r : Parts T P S) (law : LawfulParts r) where
         k.good.policy,
         counted_holding w k f n fp ne w.policy (λ g q. refl) (λ z. absurd (omega arith)) (λ _. k.holding.fixed f fp (omega arith)),
       )) in
-      whole r (fixed_in1 r f w) k.fits (counted_body w k f n fp ne) h.0 h.1
+      whole r (fixed_once r f w) k.fits (counted_body w k f n fp ne) h.0 h.1
 
   -- a page freed once
   pub freed_own : (w : World T P S) → Consistent r w → (f : ℕ) → Pageable w.config f → (page_in w.records f ≡ no_page → ⊥) → 0 < fixes_in w.records f → Consistent r (freed_in r f w)
@@ -137,14 +137,14 @@ module _ {T P S : Type 0} (r : Parts T P S) (law : LawfulParts r) where
       let n = fixes_in w.records f - 1 in
       let rf = referred (get_or w.keys f 0) in
       let ch = changed (get_or w.keys f 0) in
-      let back = r.policy.give_back w.policy f rf ch in
+      let back = r.policy.return_frame w.policy f rf ch in
       let free = policies.free r.policy w.policy f in
       let f256 : f < 256 = let a = fp.1 in let b = k.fits.few in omega arith in
       let enterable : free ≡ true = and_from _ _ (lt-ltb f 256 f256) (eq-eqb _ _ (k.holding.fixed f fp pos)) in
-      let held : (g : ℕ) → r.policy.times back g ≡ cond (eqb g f && free) 1 (r.policy.times w.policy g) = λ g. law.policy.back_times w.policy f g rf ch k.good.policy in
+      let held : (g : ℕ) → r.policy.times back g ≡ cond (eqb g f && free) 1 (r.policy.times w.policy g) = λ g. law.policy.return_times w.policy f g rf ch k.good.policy in
       let h = cond_both (eqb (fixes_in w.records f) 1) back w.policy (λ m. r.policy.good m × Holding r.policy w.config (counts w k f n fp ne) m)
       (λ e. let one = eqb-true _ _ e in (
-        law.policy.back_good w.policy f rf ch k.good.policy,
+        law.policy.return_good w.policy f rf ch k.good.policy,
         counted_holding w k f n fp ne back (λ g q. held g ∙ cond-false (eqb g f && free) 1 (r.policy.times w.policy g) (and_left _ _ (ne_eqb g f q)))
             (λ _. held f ∙ cond-true (eqb f f && free) 1 (r.policy.times w.policy f) (and_from _ _ (eq-eqb f f refl) enterable)) (λ z. absurd (omega arith)),
       ))

@@ -153,9 +153,9 @@ module _ {S : Type 0} (r : stores.Rules S) (c : Config) (fit : Fits c) (rs : Lis
       elsewhere.page_other 1 (2048 * p + i) (2048 * q) _ _ (laws.beside.set_within bytes (2048 * p + i) v) (omega arith)
       (elim (cases_lt q p) [ inl z ↦ inl (omega arith) | inr z ↦ inr (omega arith) ])
 
-  pub stored_content : (ks : List ℕ) (k256 : f < length ks) (mark : ℕ) → changed mark ≡ true → (st : S) (bytes : List ℕ) → Content r c rs ks st s bytes
-      → Content r c rs (set ks f mark) st s1 (set bytes (2048 * page_in rs f + i) v)
-  stored_content ks k256 mark on st bytes k =
+  pub stored_content : (ks : List ℕ) (k256 : f < length ks) (new_key : ℕ) → changed new_key ≡ true → (st : S) (bytes : List ℕ) → Content r c rs ks st s bytes
+      → Content r c rs (set ks f new_key) st s1 (set bytes (2048 * page_in rs f + i) v)
+  stored_content ks k256 new_key on st bytes k =
       let p = page_in rs f in
       let n = tab.named f fp ne in
       let behind : (q : ℕ) → q < 32 * segments c → backing r c s1 st q ≡ backing r c s st q = λ q qt.
@@ -173,9 +173,9 @@ module _ {S : Type 0} (r : stores.Rules S) (c : Config) (fit : Fits c) (rs : Lis
               ∙ sym (flat_other bytes p (page_in rs g) k.long (valid g gp gn) (other_page g gp gn e))
         ];
         clean = λ g gp gn off. elim (cases_eq g f) [
-          | inl e ↦ absurd (both_ways (changed (get_or (set ks f mark) f 0)) (subst (λ x. changed (get_or (set ks f mark) x 0) ≡ false) e off) (ap changed (get_or-set_same ks f mark 0 k256) ∙ on))
+          | inl e ↦ absurd (both_ways (changed (get_or (set ks f new_key) f 0)) (subst (λ x. changed (get_or (set ks f new_key) x 0) ≡ false) e off) (ap changed (get_or-set_same ks f new_key 0 k256) ∙ on))
           | inr e ↦
-              behind (page_in rs g) (frame_listed c fit rs tab g gp gn) ∙ k.clean g gp gn (ap changed (sym (get_or-set_other ks f g mark 0 e)) ∙ off)
+              behind (page_in rs g) (frame_listed c fit rs tab g gp gn) ∙ k.clean g gp gn (ap changed (sym (get_or-set_other ks f g new_key 0 e)) ∙ off)
               ∙ sym (flat_other bytes p (page_in rs g) k.long (valid g gp gn) (other_page g gp gn e))
         ];
         outside = λ q y e a.

@@ -219,7 +219,7 @@ module _ {T : Type 0} (r : translators.Rules T) (law : translators.Lawful r) (c 
     by_any : translators.ByPair r t s a small (r.translate t s a).answer ⊎ translators.ByWalk r t s a small (r.translate t s a).answer
         → (r.translate t s a).answer ≡ Ok (2048 * f + a % 2048)
     by_any (inl p) =
-        let e = k.each (a / 2048) p.start p.vouched in
+        let e = k.each (a / 2048) p.start p.paired in
         p.answered ∙ ap (λ n. located s n (byte_index small a)) (e.4 ∙ ap (λ g. 2048 * g) (same_frame e.0 e.1 e.2)) ∙ placed
     by_any (inr w) =
         w.answered ∙ ap (λ (x : Controls). walk s x a) k.words ∙ walks_to c fit s long a f inside.1 fp.1 seg ent

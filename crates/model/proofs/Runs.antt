@@ -19,7 +19,7 @@ use Rattle.model.specs.Ipl.{first_fault, fresh, ipl, own_pages, partition_entry,
 use Rattle.model.specs.Law.{After, Consistent, Fits, LawOf, Pageable, Placed, Saved, Slots, Sound, Stands, SteadyOf}
 use Rattle.model.specs.Layout.{controls_of, counted, entries_are, entry_at, entry_for, entry_should, fixed_in, fixes_in, frame_of, frames_are, key_of, no_page, out_entry, page_in, segment_entries, segments, segments_are, vacant}
 use Rattle.model.specs.Refusals.{and_then, decode_fix, decode_free, decode_load, decode_purge, decode_settle, decode_store, fixes_of, unless, where_is}
-use Rattle.model.specs.Steps.{brought, brought_frame, byte_answer, change_on, done_answer, fix, fixed_in1, fixing, free, freed_in, freeing, load, loaded_in, loading, purge, purging, settle, store, stored_in, storing, sweeping, swept, worked}
+use Rattle.model.specs.Steps.{brought, brought_frame, byte_answer, change_on, done_answer, fix, fixed_once, fixing, free, freed_in, freeing, load, loaded_in, loading, purge, purging, settle, store, stored_in, storing, sweeping, swept, worked}
 use Rattle.model.specs.World.{Config, GoodParts, LawfulParts, Parts, World}
 use Rattle.model.proofs.Answered.{Side, agree_cases, asked_is, byte_is, counts_agree, fix_agrees, free_agrees, load_agrees, placed, reached_mem, stands, store_agrees}
 use Rattle.model.proofs.Beside.{Mem, frames_right, swept_mem}
@@ -107,14 +107,14 @@ module _ {T P S : Type 0} (r : Parts T P S) (law : LawfulParts r) where
         let ne = ready_page r law (a / 2048) q.key w next f d in
         let at = asked_is r law w next a q.key f d in
         let whole : 2048 * page_in next.records f + a % 2048 ≡ a = ap (λ x. 2048 * x + a % 2048) d.brought.has ∙ (let z : 2048 * (a / 2048) + a % 2048 ≡ a = omega arith in z) in
-        let mark = change_on (reference_on (get_or next.keys f 0)) in
+        let new_key = change_on (reference_on (get_or next.keys f 0)) in
         let ma : Mem r after (set bytes a byte) fixes = record {
           entries = subst (λ n. Entries next.config next.records (set next.storage n byte)) (sym at)
               (stored_entries r.store next.config kn.fits next.records kn.table next.storage mn.entries f (a % 2048) byte fp ne il);
           content = subst (λ n. Content r.store next.config next.records after.keys next.store (set next.storage n byte) (set bytes a byte)) (sym at)
               (subst (λ n. Content r.store next.config next.records after.keys next.store (set next.storage (2048 * f + a % 2048) byte) (set bytes n byte)) whole
               (stored_content r.store next.config kn.fits next.records kn.table next.storage mn.entries f (a % 2048) byte fp ne il
-              next.keys (in_keys next.config kn.fits next.records next.keys kn.keyed f fp.1) mark (change_on_lem (reference_on (get_or next.keys f 0))) next.store bytes mn.content));
+              next.keys (in_keys next.config kn.fits next.records next.keys kn.keyed f fp.1) new_key (change_on_lem (reference_on (get_or next.keys f 0))) next.store bytes mn.content));
           counts = mn.counts;
         } in (
           refl,
@@ -159,8 +159,8 @@ module _ {T P S : Type 0} (r : Parts T P S) (law : LawfulParts r) where
           refl,
           (λ _. tt),
           record {
-            mem = subst (λ x. Mem r (fixed_in1 r f next) bytes (set fixes p x)) (exact ∙ ap (λ x. x + 1) (sym old))
-                (count_mem next kn mn f n p fp ne d.brought.has next.translator (fixed_in1 r f next).policy total);
+            mem = subst (λ x. Mem r (fixed_once r f next) bytes (set fixes p x)) (exact ∙ ap (λ x. x + 1) (sym old))
+                (count_mem next kn mn f n p fp ne d.brought.has next.translator (fixed_once r f next).policy total);
             same = sym d.brought.same_config;
           },
         )

@@ -247,12 +247,12 @@ module _ {P : Type 0} (r : policies.Rules P) (law : policies.Lawful r) where
   unfolding returned
   returned_are f zero m h good none = (good, (λ g a b. absurd (omega arith)), λ g o. refl)
   returned_are f (suc n) m h good none =
-      let m1 = r.give_back m f false false in
+      let m1 = r.return_frame m f false false in
       let free : policies.free r m f ≡ true = and_from _ _ (lt-ltb f 256 (omega arith)) (eq-eqb _ _ (none f (omega arith))) in
-      let times : (g : ℕ) → r.times m1 g ≡ cond (eqb g f && policies.free r m f) 1 (r.times m g) = λ g. law.back_times m f g false false good in
+      let times : (g : ℕ) → r.times m1 g ≡ cond (eqb g f && policies.free r m f) 1 (r.times m g) = λ g. law.return_times m f g false false good in
       let other : (g : ℕ) → (g ≡ f → ⊥) → r.times m1 g ≡ r.times m g = λ g ne. times g ∙ cond-false _ 1 (r.times m g) (and_left _ _ (ne_eqb g f ne)) in
       let here : r.times m1 f ≡ 1 = times f ∙ cond-true _ 1 (r.times m f) (and_from _ _ (eq-eqb f f refl) free) in
-      let rest = returned_are (f + 1) n m1 (omega arith) (law.back_good m f false false good) (λ g a. other g (λ e. omega arith) ∙ none g (omega arith)) in (
+      let rest = returned_are (f + 1) n m1 (omega arith) (law.return_good m f false false good) (λ g a. other g (λ e. omega arith) ∙ none g (omega arith)) in (
         rest.0,
         (λ g a b. elim (cases_eq g f) [
           | inl e ↦ rest.2 g (inl (omega arith)) ∙ ap (r.times m1) e ∙ here

@@ -71,7 +71,7 @@ own_pages f (suc n) rs = own_pages (f + 1) n (slice_set rs f (record { page = f;
 -- n frames from f on returned to the policy, with both bits off.
 unfoldable pub returned : {P : Type 0} → policies.Rules P → ℕ → ℕ → P → P
 returned r f zero m = m
-returned r f (suc n) m = returned r (f + 1) n (r.give_back m f false false)
+returned r f (suc n) m = returned r (f + 1) n (r.return_frame m f false false)
 
 module _ {T P S : Type 0} (r : Parts T P S) where
   -- the machine that IPL starts

@@ -129,7 +129,7 @@ pub record Holding {P : Type 0} (r : policies.Rules P) (c : Config) (rs : List F
 -- The translator has IPL's control words, and each of its pairs has a frame whose record names the page.
 pub record Paired {T : Type 0} (r : translators.Rules T) (c : Config) (rs : List FrameRecord) (t : T) : Type 0 where
   pub words : r.controls t ≡ controls_of c
-  pub each : (p start : ℕ) → r.vouches t p start ≡ true
+  pub each : (p start : ℕ) → r.has_pair t p start ≡ true
       → (f : ℕ) × (f < c.frames) × (page_in rs f ≡ p) × (p < c.pages) × (start ≡ 2048 * f)
 
 -- The slots of all pages can be used.

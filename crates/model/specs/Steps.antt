@@ -147,8 +147,8 @@ module _ {T P S : Type 0} (r : Parts T P S) where
   }
 
   -- Fixed once more, up to 255 times: at 1 the frame leaves the policy.
-  abbrev pub fixed_in1 : ℕ → World T P S → World T P S
-  fixed_in1 f w = record {
+  abbrev pub fixed_once : ℕ → World T P S → World T P S
+  fixed_once f w = record {
     config = w.config;
     storage = w.storage;
     keys = w.keys;
@@ -166,7 +166,7 @@ module _ {T P S : Type 0} (r : Parts T P S) where
     keys = w.keys;
     records = slice_set w.records f (record { page = page_in w.records f; fixes = fixes_in w.records f - 1 });
     translator = w.translator;
-    policy = cond (fixes_in w.records f == 1) (r.policy.give_back w.policy f (referred (slice_index w.keys f)) (changed (slice_index w.keys f))) w.policy;
+    policy = cond (fixes_in w.records f == 1) (r.policy.return_frame w.policy f (referred (slice_index w.keys f)) (changed (slice_index w.keys f))) w.policy;
     store = w.store;
   }
 
@@ -215,7 +215,7 @@ module _ {T P S : Type 0} (r : Parts T P S) where
 
   abbrev pub fixing : World T P S → Result Request Refusal → Result (Unit {0}) Refusal × World T P S
   fixing w (Err why) = (Err why, w)
-  fixing w (Ok q) = (Ok tt, fixed_in1 (brought_frame w q.frame) (brought q.page q.key w q.frame))
+  fixing w (Ok q) = (Ok tt, fixed_once (brought_frame w q.frame) (brought q.page q.key w q.frame))
 
   abbrev pub freeing : World T P S → Result Request Refusal → Result (Unit {0}) Refusal × World T P S
   freeing w (Err why) = (Err why, w)

@@ -6,7 +6,7 @@ use Rattle.frames.specs.Held.{times_in, without}
 use Rattle.frames.specs.Keys.{referred, changed}
 use Rattle.frames.specs.Policy.{Took}
 use Rattle.frames.proofs.Held.{without_first, without_later, without_append}
-use Rattle.frames.proofs.Marks.{kept_changed}
+use Rattle.frames.proofs.Keys.{kept_changed}
 use Rattle.queues.specs.declared.queue.Queue.{Queue}
 use Rattle.queues.specs.declared.queue.Queue.TheVariants.{Q00, Q01, Q10, Q11, Hq}
 use Rattle.queues.specs.Five.{Five, times_held, size, dropped, on, turned, seen_q00, seen_q01, step, step_at, steps, taken, Good}
@@ -75,15 +75,15 @@ turned_dropped (suc n) m f = turned_dropped n (turned m) f
 abbrev Only : Five → ℕ → Five → Type 0
 Only m f left = dropped left f ≡ dropped m f
 
-only_q00 : (ref chg : Bool) (m : Five) (marks : List ℕ) (f : ℕ) → Only m f (seen_q00 ref chg m marks f).left
-only_q00 false false m marks f = dropped_twice m f
-only_q00 false true m marks f = dropped_on Q01 (dropped m f) f ∙ dropped_twice m f
-only_q00 true false m marks f = dropped_on Q10 (dropped m f) f ∙ dropped_twice m f
-only_q00 true true m marks f = dropped_on Q11 (dropped m f) f ∙ dropped_twice m f
+only_q00 : (ref chg : Bool) (m : Five) (keys : List ℕ) (f : ℕ) → Only m f (seen_q00 ref chg m keys f).left
+only_q00 false false m keys f = dropped_twice m f
+only_q00 false true m keys f = dropped_on Q01 (dropped m f) f ∙ dropped_twice m f
+only_q00 true false m keys f = dropped_on Q10 (dropped m f) f ∙ dropped_twice m f
+only_q00 true true m keys f = dropped_on Q11 (dropped m f) f ∙ dropped_twice m f
 
-only_q01 : (ref : Bool) (m : Five) (marks : List ℕ) (f : ℕ) → Only m f (seen_q01 ref m marks f).left
-only_q01 false m marks f = dropped_twice m f
-only_q01 true m marks f = dropped_on Q11 (dropped m f) f ∙ dropped_twice m f
+only_q01 : (ref : Bool) (m : Five) (keys : List ℕ) (f : ℕ) → Only m f (seen_q01 ref m keys f).left
+only_q01 false m keys f = dropped_twice m f
+only_q01 true m keys f = dropped_on Q11 (dropped m f) f ∙ dropped_twice m f
 
 -- the same, without the frames of a list too
 keep_only : (fs : List ℕ) (m left : Five) (f : ℕ) → Only m f left → keep (f ∷ fs) left ≡ keep (f ∷ fs) m
@@ -97,98 +97,98 @@ look_on : (m mid left : Five) (f : ℕ) (fs : List ℕ) (n : ℕ) → Only m f m
 look_on m mid left f fs n only kept =
     ap (λ x. dropped x f) kept ∙ sym (turned_dropped n (keep fs mid) f) ∙ ap (turned_by n) (keep_only fs m mid f only)
 
-on_at : (xs ys : List ℕ) (m : Five) (marks : List ℕ) (left : Five) (fs : List ℕ) (n : ℕ)
-    → Kept (step_at xs ys m marks).left left fs n → Kept m left (looks_at xs ys ++ fs) (turns_from xs ys n)
-on_at (f ∷ xs) ys m marks left fs n kept =
-    look_on m (seen_q00 (referred (get_or marks f 0)) (changed (get_or marks f 0)) m marks f).left left f fs n (only_q00 (referred (get_or marks f 0)) (changed (get_or marks f 0)) m marks f) kept
-on_at [] (f ∷ ys) m marks left fs n kept =
-    look_on m (seen_q01 (referred (get_or marks f 0)) m marks f).left left f fs n (only_q01 (referred (get_or marks f 0)) m marks f) kept
-on_at [] [] m marks left fs n kept = kept ∙ ap (turned_by n) (keep_turned fs m)
+on_at : (xs ys : List ℕ) (m : Five) (keys : List ℕ) (left : Five) (fs : List ℕ) (n : ℕ)
+    → Kept (step_at xs ys m keys).left left fs n → Kept m left (looks_at xs ys ++ fs) (turns_from xs ys n)
+on_at (f ∷ xs) ys m keys left fs n kept =
+    look_on m (seen_q00 (referred (get_or keys f 0)) (changed (get_or keys f 0)) m keys f).left left f fs n (only_q00 (referred (get_or keys f 0)) (changed (get_or keys f 0)) m keys f) kept
+on_at [] (f ∷ ys) m keys left fs n kept =
+    look_on m (seen_q01 (referred (get_or keys f 0)) m keys f).left left f fs n (only_q01 (referred (get_or keys f 0)) m keys f) kept
+on_at [] [] m keys left fs n kept = kept ∙ ap (turned_by n) (keep_turned fs m)
 
 -- a step that takes a frame
-took_at : (xs ys : List ℕ) (m : Five) (marks : List ℕ) (f : ℕ) → (step_at xs ys m marks).frame ≡ Some f
-    → (looks_at xs ys ≡ f ∷ []) × (referred (get_or marks f 0) ≡ false) × Only m f (step_at xs ys m marks).left
-took_at (g ∷ xs) ys m marks f e = taken_q00 (referred (get_or marks g 0)) (changed (get_or marks g 0)) refl e
+took_at : (xs ys : List ℕ) (m : Five) (keys : List ℕ) (f : ℕ) → (step_at xs ys m keys).frame ≡ Some f
+    → (looks_at xs ys ≡ f ∷ []) × (referred (get_or keys f 0) ≡ false) × Only m f (step_at xs ys m keys).left
+took_at (g ∷ xs) ys m keys f e = taken_q00 (referred (get_or keys g 0)) (changed (get_or keys g 0)) refl e
   where
-    taken_q00 : (ref chg : Bool) → referred (get_or marks g 0) ≡ ref → (seen_q00 ref chg m marks g).frame ≡ Some f
-        → (g ∷ [] ≡ f ∷ []) × (referred (get_or marks f 0) ≡ false) × Only m f (seen_q00 ref chg m marks g).left
+    taken_q00 : (ref chg : Bool) → referred (get_or keys g 0) ≡ ref → (seen_q00 ref chg m keys g).frame ≡ Some f
+        → (g ∷ [] ≡ f ∷ []) × (referred (get_or keys f 0) ≡ false) × Only m f (seen_q00 ref chg m keys g).left
     taken_q00 false false r e =
         let is : g ≡ f = cc in
-        (ap (λ k. k ∷ []) is, ap (λ k. referred (get_or marks k 0)) (sym is) ∙ r, subst (λ k. Only m k (dropped m g)) is (dropped_twice m g))
+        (ap (λ k. k ∷ []) is, ap (λ k. referred (get_or keys k 0)) (sym is) ∙ r, subst (λ k. Only m k (dropped m g)) is (dropped_twice m g))
     taken_q00 false true r e = let z : ◌≡◌ {A = ℕ} 0 1 = cc in absurd (omega arith)
     taken_q00 true false r e = let z : ◌≡◌ {A = ℕ} 0 1 = cc in absurd (omega arith)
     taken_q00 true true r e = let z : ◌≡◌ {A = ℕ} 0 1 = cc in absurd (omega arith)
-took_at [] (g ∷ ys) m marks f e = taken_q01 (referred (get_or marks g 0)) refl e
+took_at [] (g ∷ ys) m keys f e = taken_q01 (referred (get_or keys g 0)) refl e
   where
-    taken_q01 : (ref : Bool) → referred (get_or marks g 0) ≡ ref → (seen_q01 ref m marks g).frame ≡ Some f
-        → (g ∷ [] ≡ f ∷ []) × (referred (get_or marks f 0) ≡ false) × Only m f (seen_q01 ref m marks g).left
+    taken_q01 : (ref : Bool) → referred (get_or keys g 0) ≡ ref → (seen_q01 ref m keys g).frame ≡ Some f
+        → (g ∷ [] ≡ f ∷ []) × (referred (get_or keys f 0) ≡ false) × Only m f (seen_q01 ref m keys g).left
     taken_q01 false r e =
         let is : g ≡ f = cc in
-        (ap (λ k. k ∷ []) is, ap (λ k. referred (get_or marks k 0)) (sym is) ∙ r, subst (λ k. Only m k (dropped m g)) is (dropped_twice m g))
+        (ap (λ k. k ∷ []) is, ap (λ k. referred (get_or keys k 0)) (sym is) ∙ r, subst (λ k. Only m k (dropped m g)) is (dropped_twice m g))
     taken_q01 true r e = let z : ◌≡◌ {A = ℕ} 0 1 = cc in absurd (omega arith)
-took_at [] [] m marks f e = let z : ◌≡◌ {A = ℕ} 0 1 = cc in absurd (omega arith)
+took_at [] [] m keys f e = let z : ◌≡◌ {A = ℕ} 0 1 = cc in absurd (omega arith)
 
 -- what is looked at, and how often the names turn, after one step
-looked_took : (n : ℕ) (m : Five) (marks : List ℕ) (f : ℕ) → (step m marks).frame ≡ Some f → looked (suc n) m marks ≡ looked_at m
+looked_took : (n : ℕ) (m : Five) (keys : List ℕ) (f : ℕ) → (step m keys).frame ≡ Some f → looked (suc n) m keys ≡ looked_at m
 unfolding looked
-looked_took n m marks f e = ap (λ o. looked_at m ++ unless o [] (looked n (step m marks).left (step m marks).keys)) e ∙ append-nil (looked_at m)
+looked_took n m keys f e = ap (λ o. looked_at m ++ unless o [] (looked n (step m keys).left (step m keys).keys)) e ∙ append-nil (looked_at m)
 
-looked_on : (n : ℕ) (m : Five) (marks : List ℕ) → (step m marks).frame ≡ None → looked (suc n) m marks ≡ looked_at m ++ looked n (step m marks).left (step m marks).keys
+looked_on : (n : ℕ) (m : Five) (keys : List ℕ) → (step m keys).frame ≡ None → looked (suc n) m keys ≡ looked_at m ++ looked n (step m keys).left (step m keys).keys
 unfolding looked
-looked_on n m marks e = ap (λ o. looked_at m ++ unless o [] (looked n (step m marks).left (step m marks).keys)) e
+looked_on n m keys e = ap (λ o. looked_at m ++ unless o [] (looked n (step m keys).left (step m keys).keys)) e
 
-turns_took : (n : ℕ) (m : Five) (marks : List ℕ) (f : ℕ) → (step m marks).frame ≡ Some f → turns (suc n) m marks ≡ 0
+turns_took : (n : ℕ) (m : Five) (keys : List ℕ) (f : ℕ) → (step m keys).frame ≡ Some f → turns (suc n) m keys ≡ 0
 unfolding turns
-turns_took n m marks f e = ap (λ o. unless o 0 (turns_from m.q00 m.q01 (turns n (step m marks).left (step m marks).keys))) e
+turns_took n m keys f e = ap (λ o. unless o 0 (turns_from m.q00 m.q01 (turns n (step m keys).left (step m keys).keys))) e
 
-turns_on : (n : ℕ) (m : Five) (marks : List ℕ) → (step m marks).frame ≡ None → turns (suc n) m marks ≡ turns_from m.q00 m.q01 (turns n (step m marks).left (step m marks).keys)
+turns_on : (n : ℕ) (m : Five) (keys : List ℕ) → (step m keys).frame ≡ None → turns (suc n) m keys ≡ turns_from m.q00 m.q01 (turns n (step m keys).left (step m keys).keys)
 unfolding turns
-turns_on n m marks e = ap (λ o. unless o 0 (turns_from m.q00 m.q01 (turns n (step m marks).left (step m marks).keys))) e
+turns_on n m keys e = ap (λ o. unless o 0 (turns_from m.q00 m.q01 (turns n (step m keys).left (step m keys).keys))) e
 
 kept_same : (m left left' : Five) (fs fs' : List ℕ) (n n' : ℕ) → left' ≡ left → fs' ≡ fs → n' ≡ n → Kept m left fs n → Kept m left' fs' n'
 kept_same m left left' fs fs' n n' a b c k = subst (λ x. Kept m x fs' n') (sym a) (subst (λ x. Kept m left x n') (sym b) (subst (Kept m left fs) (sym c) k))
 
-order : (n : ℕ) (m : Five) (marks : List ℕ) → Kept m (steps n m marks).left (looked n m marks) (turns n m marks)
+order : (n : ℕ) (m : Five) (keys : List ℕ) → Kept m (steps n m keys).left (looked n m keys) (turns n m keys)
 unfolding steps looked turns
-order zero m marks = refl
-order (suc n) m marks = elim (cases_step (step m marks).frame) [
-  | inr y ↦ (let t = took_at m.q00 m.q01 m marks y.0 y.1 in
-      kept_same m (step m marks).left (steps (suc n) m marks).left (y.0 ∷ []) (looked (suc n) m marks) 0 (turns (suc n) m marks)
-      (ap (λ (t : Took Five). t.left) (step_first n m marks y.0 y.1)) (looked_took n m marks y.0 y.1 ∙ t.0) (turns_took n m marks y.0 y.1)
+order zero m keys = refl
+order (suc n) m keys = elim (cases_step (step m keys).frame) [
+  | inr y ↦ (let t = took_at m.q00 m.q01 m keys y.0 y.1 in
+      kept_same m (step m keys).left (steps (suc n) m keys).left (y.0 ∷ []) (looked (suc n) m keys) 0 (turns (suc n) m keys)
+      (ap (λ (t : Took Five). t.left) (step_first n m keys y.0 y.1)) (looked_took n m keys y.0 y.1 ∙ t.0) (turns_took n m keys y.0 y.1)
       t.2)
-  | inl e ↦ kept_same m (steps n (step m marks).left (step m marks).keys).left (steps (suc n) m marks).left
-      (looked_at m ++ looked n (step m marks).left (step m marks).keys) (looked (suc n) m marks)
-      (turns_from m.q00 m.q01 (turns n (step m marks).left (step m marks).keys)) (turns (suc n) m marks)
-      (ap (λ (t : Took Five). t.left) (step_on n m marks e)) (looked_on n m marks e) (turns_on n m marks e)
-      (on_at m.q00 m.q01 m marks (steps n (step m marks).left (step m marks).keys).left (looked n (step m marks).left (step m marks).keys) (turns n (step m marks).left (step m marks).keys)
-      (order n (step m marks).left (step m marks).keys))
+  | inl e ↦ kept_same m (steps n (step m keys).left (step m keys).keys).left (steps (suc n) m keys).left
+      (looked_at m ++ looked n (step m keys).left (step m keys).keys) (looked (suc n) m keys)
+      (turns_from m.q00 m.q01 (turns n (step m keys).left (step m keys).keys)) (turns (suc n) m keys)
+      (ap (λ (t : Took Five). t.left) (step_on n m keys e)) (looked_on n m keys e) (turns_on n m keys e)
+      (on_at m.q00 m.q01 m keys (steps n (step m keys).left (step m keys).keys).left (looked n (step m keys).left (step m keys).keys) (turns n (step m keys).left (step m keys).keys)
+      (order n (step m keys).left (step m keys).keys))
 ]
 
 -- the moment at which the frame taken was looked at
 abbrev Moment : Five → List ℕ → ℕ → Type 0
-Moment m marks f = Unreferred m marks (Some f)
+Moment m keys f = Unreferred m keys (Some f)
 
-moment_first : (m : Five) (marks : List ℕ) (f : ℕ) → (step m marks).frame ≡ Some f → Moment m marks f
+moment_first : (m : Five) (keys : List ℕ) (f : ℕ) → (step m keys).frame ≡ Some f → Moment m keys f
 unfolding steps
-moment_first m marks f e = let t = took_at m.q00 m.q01 m marks f e in (0, refl, t.0, t.1)
+moment_first m keys f e = let t = took_at m.q00 m.q01 m keys f e in (0, refl, t.0, t.1)
 
-moment_on : (m : Five) (marks : List ℕ) (f : ℕ) → (step m marks).frame ≡ None → Moment (step m marks).left (step m marks).keys f → Moment m marks f
-moment_on m marks f e w =
-    let s = step_on w.0 m marks e in
+moment_on : (m : Five) (keys : List ℕ) (f : ℕ) → (step m keys).frame ≡ None → Moment (step m keys).left (step m keys).keys f → Moment m keys f
+moment_on m keys f e w =
+    let s = step_on w.0 m keys e in
     (suc w.0, ap (λ (t : Took Five). t.frame) s ∙ w.1, ap (λ (t : Took Five). looked_at t.left) s ∙ w.2, ap (λ (t : Took Five). referred (get_or t.keys f 0)) s ∙ w.3)
 
-moment : (n : ℕ) (m : Five) (marks : List ℕ) (f : ℕ) → (steps n m marks).frame ≡ Some f → Moment m marks f
+moment : (n : ℕ) (m : Five) (keys : List ℕ) (f : ℕ) → (steps n m keys).frame ≡ Some f → Moment m keys f
 unfolding steps
-moment zero m marks f e = let z : ◌≡◌ {A = ℕ} 0 1 = cc in absurd (omega arith)
-moment (suc n) m marks f e = elim (cases_step (step m marks).frame) [
-  | inr y ↦ (let s = ap (λ (t : Took Five). t.frame) (step_first n m marks y.0 y.1) in moment_first m marks f (sym s ∙ e))
-  | inl d ↦ (let s = ap (λ (t : Took Five). t.frame) (step_on n m marks d) in
-      moment_on m marks f d (moment n (step m marks).left (step m marks).keys f (sym s ∙ e)))
+moment zero m keys f e = let z : ◌≡◌ {A = ℕ} 0 1 = cc in absurd (omega arith)
+moment (suc n) m keys f e = elim (cases_step (step m keys).frame) [
+  | inr y ↦ (let s = ap (λ (t : Took Five). t.frame) (step_first n m keys y.0 y.1) in moment_first m keys f (sym s ∙ e))
+  | inl d ↦ (let s = ap (λ (t : Took Five). t.frame) (step_on n m keys d) in
+      moment_on m keys f d (moment n (step m keys).left (step m keys).keys f (sym s ∙ e)))
 ]
 
-unreferred_of : (m : Five) (marks : List ℕ) (o : Option ℕ) → (taken m marks).frame ≡ o → Unreferred m marks o
-unreferred_of m marks None e = tt
-unreferred_of m marks (Some f) e = moment (6 * size m) m marks f e
+unreferred_of : (m : Five) (keys : List ℕ) (o : Option ℕ) → (taken m keys).frame ≡ o → Unreferred m keys o
+unreferred_of m keys None e = tt
+unreferred_of m keys (Some f) e = moment (6 * size m) m keys f e
 
 -- a frame that is held once stands in one queue
 in_one_of : (m : Five) (f : ℕ) → times_held m f ≡ 1 → InOne m f
@@ -233,17 +233,17 @@ in_one_of m f h = elim (cases_eq (times_in f m.q00) 1) [
     others Hq e Q11 ne = omega arith
     others Hq e Hq ne = absurd (ne refl)
 
-take_laws : (m : Five) (marks : List ℕ) → Good m → TakeLaws m marks (taken m marks).frame (taken m marks).keys (taken m marks).left
-take_laws m marks good = record {
-  unreferred = unreferred_of m marks (taken m marks).frame refl;
-  change_kept = kept_changed marks (taken m marks).keys (keys_kept (6 * size m) m marks);
-  in_one = λ f h ne. in_one_of (taken m marks).left f (taken_times m marks good f ne ∙ h);
-  order_kept = order (6 * size m) m marks;
+take_laws : (m : Five) (keys : List ℕ) → Good m → TakeLaws m keys (taken m keys).frame (taken m keys).keys (taken m keys).left
+take_laws m keys good = record {
+  unreferred = unreferred_of m keys (taken m keys).frame refl;
+  change_kept = kept_changed keys (taken m keys).keys (keys_kept (6 * size m) m keys);
+  in_one = λ f h ne. in_one_of (taken m keys).left f (taken_times m keys good f ne ∙ h);
+  order_kept = order (6 * size m) m keys;
 }
 
 -- the laws, at what the call gives
-pub laws_at : (m : Five) (marks : List ℕ) (o : Option ℕ) (marks' : List ℕ) (left : Five) → Good m
-    → o ≡ (taken m marks).frame → marks' ≡ (taken m marks).keys → left ≡ (taken m marks).left → TakeLaws m marks o marks' left
-laws_at m marks o marks' left good a b c =
-    subst (λ x. TakeLaws m marks x marks' left) (sym a) (subst (λ x. TakeLaws m marks (taken m marks).frame x left) (sym b)
-    (subst (TakeLaws m marks (taken m marks).frame (taken m marks).keys) (sym c) (take_laws m marks good)))
+pub laws_at : (m : Five) (keys : List ℕ) (o : Option ℕ) (keys' : List ℕ) (left : Five) → Good m
+    → o ≡ (taken m keys).frame → keys' ≡ (taken m keys).keys → left ≡ (taken m keys).left → TakeLaws m keys o keys' left
+laws_at m keys o keys' left good a b c =
+    subst (λ x. TakeLaws m keys x keys' left) (sym a) (subst (λ x. TakeLaws m keys (taken m keys).frame x left) (sym b)
+    (subst (TakeLaws m keys (taken m keys).frame (taken m keys).keys) (sym c) (take_laws m keys good)))

@@ -55,31 +55,31 @@ abbrev pub turned : Five → Five
 turned m = record { q00 = m.q10; q10 = m.hq; hq = m.q01; q01 = m.q11; q11 = m.q00 }
 
 -- the keys with the reference bit of a frame off
-abbrev pub marked_off : List ℕ → ℕ → List ℕ
-marked_off marks f = slice_set marks f (reference_off (slice_index marks f))
+abbrev pub turned_off : List ℕ → ℕ → List ℕ
+turned_off keys f = slice_set keys f (reference_off (slice_index keys f))
 
 -- The head of Q00 was looked at, with these reference and change bits: with both off it is taken, else it goes to the tail
 -- of Q01, Q10 or Q11.
 abbrev pub seen_q00 : Bool → Bool → Five → List ℕ → ℕ → Took Five
-seen_q00 false false m marks f = record { frame = Some f; keys = marked_off marks f; left = dropped m f }
-seen_q00 false true m marks f = record { frame = None; keys = marked_off marks f; left = on Q01 (dropped m f) f }
-seen_q00 true false m marks f = record { frame = None; keys = marked_off marks f; left = on Q10 (dropped m f) f }
-seen_q00 true true m marks f = record { frame = None; keys = marked_off marks f; left = on Q11 (dropped m f) f }
+seen_q00 false false m keys f = record { frame = Some f; keys = turned_off keys f; left = dropped m f }
+seen_q00 false true m keys f = record { frame = None; keys = turned_off keys f; left = on Q01 (dropped m f) f }
+seen_q00 true false m keys f = record { frame = None; keys = turned_off keys f; left = on Q10 (dropped m f) f }
+seen_q00 true true m keys f = record { frame = None; keys = turned_off keys f; left = on Q11 (dropped m f) f }
 
 -- The head of Q01 was looked at, with this reference bit: with it off it is taken, else it goes to the tail of Q11.
 abbrev pub seen_q01 : Bool → Five → List ℕ → ℕ → Took Five
-seen_q01 false m marks f = record { frame = Some f; keys = marked_off marks f; left = dropped m f }
-seen_q01 true m marks f = record { frame = None; keys = marked_off marks f; left = on Q11 (dropped m f) f }
+seen_q01 false m keys f = record { frame = Some f; keys = turned_off keys f; left = dropped m f }
+seen_q01 true m keys f = record { frame = None; keys = turned_off keys f; left = on Q11 (dropped m f) f }
 
 -- one step, at these frames of Q00 and Q01: a look at the head of Q00, or of Q01 where Q00 has none, or a turn of the names
 abbrev pub step_at : List ℕ → List ℕ → Five → List ℕ → Took Five
-step_at (f ∷ fs) gs m marks = seen_q00 (referred (slice_index marks f)) (changed (slice_index marks f)) m marks f
-step_at [] (f ∷ fs) m marks = seen_q01 (referred (slice_index marks f)) m marks f
-step_at [] [] m marks = record { frame = None; keys = marks; left = turned m }
+step_at (f ∷ fs) gs m keys = seen_q00 (referred (slice_index keys f)) (changed (slice_index keys f)) m keys f
+step_at [] (f ∷ fs) m keys = seen_q01 (referred (slice_index keys f)) m keys f
+step_at [] [] m keys = record { frame = None; keys = keys; left = turned m }
 
 -- one step of Take
 abbrev pub step : Five → List ℕ → Took Five
-step m marks = step_at m.q00 m.q01 m marks
+step m keys = step_at m.q00 m.q01 m keys
 
 -- the first of two results, if it has a frame, and else the second
 abbrev pub first_of : Option ℕ → Took Five → Took Five → Took Five
@@ -88,12 +88,12 @@ first_of None one two = two
 
 -- at most n steps, up to one that takes a frame
 unfoldable pub steps : ℕ → Five → List ℕ → Took Five
-steps zero m marks = record { frame = None; keys = marks; left = m }
-steps (suc n) m marks = first_of (step m marks).frame (step m marks) (steps n (step m marks).left (step m marks).keys)
+steps zero m keys = record { frame = None; keys = keys; left = m }
+steps (suc n) m keys = first_of (step m keys).frame (step m keys) (steps n (step m keys).left (step m keys).keys)
 
 -- Take: six steps for each frame held are enough
 abbrev pub taken : Five → List ℕ → Took Five
-taken m marks = steps (6 * size m) m marks
+taken m keys = steps (6 * size m) m keys
 
 -- whether a frame can be entered
 abbrev pub free_in : Five → ℕ → Bool
@@ -108,7 +108,7 @@ five_rules = record {
   good = Good;
   times = times_held;
   enter = λ m f. cond (free_in m f) (on Hq m f) m;
-  give_back = λ m f ref chg. cond (free_in m f) (on (queue_for ref chg) m f) m;
+  return_frame = λ m f ref chg. cond (free_in m f) (on (queue_for ref chg) m f) m;
   leave = dropped;
   touch = λ m f. m;
   clear = λ m. empty;

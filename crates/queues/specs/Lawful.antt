@@ -6,7 +6,7 @@ use Rattle.frames.specs.Held.{times_in}
 use Rattle.frames.specs.Keys.{referred, changed}
 use Rattle.frames.specs.Policy.{Lawful, Picks, KeysKept, Took}
 use Rattle.frames.proofs.Held.{share, share_same, share_other, times_append, without_same, without_other}
-use Rattle.frames.proofs.Marks.{kept_one, kept_all, kept_then}
+use Rattle.frames.proofs.Keys.{kept_one, kept_all, kept_then}
 use Rattle.queues.specs.Five.{Five, times_held, size, dropped, on, queue_for, free_in, seen_q00, seen_q01, step, step_at, steps, taken, Good, five_rules}
 use Rattle.queues.specs.declared.queue.Queue.{Queue}
 use Rattle.queues.specs.declared.queue.Queue.TheVariants.{Q00, Q01, Q10, Q11, Hq}
@@ -91,59 +91,59 @@ moved_times q m f one g = on_times q (dropped m f) f g ∙ (elim (cases_eq g f) 
   | inr ne ↦ omega (arith, share_other f g (λ e. ne (sym e)), dropped_other m f g ne)
 ])
 
-keeps_q00 : (ref chg : Bool) (m : Five) (marks : List ℕ) (f : ℕ) → times_held m f ≡ 1
-    → Keeps m (seen_q00 ref chg m marks f).left (seen_q00 ref chg m marks f).frame
-keeps_q00 false false m marks f one = (one, dropped_times m f)
-keeps_q00 false true m marks f one = moved_times Q01 m f one
-keeps_q00 true false m marks f one = moved_times Q10 m f one
-keeps_q00 true true m marks f one = moved_times Q11 m f one
+keeps_q00 : (ref chg : Bool) (m : Five) (keys : List ℕ) (f : ℕ) → times_held m f ≡ 1
+    → Keeps m (seen_q00 ref chg m keys f).left (seen_q00 ref chg m keys f).frame
+keeps_q00 false false m keys f one = (one, dropped_times m f)
+keeps_q00 false true m keys f one = moved_times Q01 m f one
+keeps_q00 true false m keys f one = moved_times Q10 m f one
+keeps_q00 true true m keys f one = moved_times Q11 m f one
 
-keeps_q01 : (ref : Bool) (m : Five) (marks : List ℕ) (f : ℕ) → times_held m f ≡ 1
-    → Keeps m (seen_q01 ref m marks f).left (seen_q01 ref m marks f).frame
-keeps_q01 false m marks f one = (one, dropped_times m f)
-keeps_q01 true m marks f one = moved_times Q11 m f one
+keeps_q01 : (ref : Bool) (m : Five) (keys : List ℕ) (f : ℕ) → times_held m f ≡ 1
+    → Keeps m (seen_q01 ref m keys f).left (seen_q01 ref m keys f).frame
+keeps_q01 false m keys f one = (one, dropped_times m f)
+keeps_q01 true m keys f one = moved_times Q11 m f one
 
-keeps_at : (xs ys : List ℕ) (m : Five) (marks : List ℕ) → m.q00 ≡ xs → m.q01 ≡ ys → Good m
-    → Keeps m (step_at xs ys m marks).left (step_at xs ys m marks).frame
-keeps_at (f ∷ fs) ys m marks e d good =
-    keeps_q00 (referred (slice_index marks f)) (changed (slice_index marks f)) m marks f (let s = share_same f f refl in omega (arith, ap (times_in f) e, (good f).0))
-keeps_at [] (f ∷ fs) m marks e d good =
-    keeps_q01 (referred (slice_index marks f)) m marks f (let s = share_same f f refl in omega (arith, ap (times_in f) d, (good f).0))
-keeps_at [] [] m marks e d good = λ g. omega arith
+keeps_at : (xs ys : List ℕ) (m : Five) (keys : List ℕ) → m.q00 ≡ xs → m.q01 ≡ ys → Good m
+    → Keeps m (step_at xs ys m keys).left (step_at xs ys m keys).frame
+keeps_at (f ∷ fs) ys m keys e d good =
+    keeps_q00 (referred (slice_index keys f)) (changed (slice_index keys f)) m keys f (let s = share_same f f refl in omega (arith, ap (times_in f) e, (good f).0))
+keeps_at [] (f ∷ fs) m keys e d good =
+    keeps_q01 (referred (slice_index keys f)) m keys f (let s = share_same f f refl in omega (arith, ap (times_in f) d, (good f).0))
+keeps_at [] [] m keys e d good = λ g. omega arith
 
-pub step_keeps : (m : Five) (marks : List ℕ) → Good m → Keeps m (step m marks).left (step m marks).frame
-step_keeps m marks good = keeps_at m.q00 m.q01 m marks refl refl good
+pub step_keeps : (m : Five) (keys : List ℕ) → Good m → Keeps m (step m keys).left (step m keys).frame
+step_keeps m keys good = keeps_at m.q00 m.q01 m keys refl refl good
 
 -- one step that takes none keeps all
-pub step_same : (m : Five) (marks : List ℕ) → Good m → (step m marks).frame ≡ None → (g : ℕ) → times_held (step m marks).left g ≡ times_held m g
-step_same m marks good e = subst (Keeps m (step m marks).left) e (step_keeps m marks good)
+pub step_same : (m : Five) (keys : List ℕ) → Good m → (step m keys).frame ≡ None → (g : ℕ) → times_held (step m keys).left g ≡ times_held m g
+step_same m keys good e = subst (Keeps m (step m keys).left) e (step_keeps m keys good)
 
-pub step_good : (m : Five) (marks : List ℕ) → Good m → Good (step m marks).left
-step_good m marks good = keeps_good m (step m marks).left (step m marks).frame good (step_keeps m marks good)
+pub step_good : (m : Five) (keys : List ℕ) → Good m → Good (step m keys).left
+step_good m keys good = keeps_good m (step m keys).left (step m keys).frame good (step_keeps m keys good)
 
 abbrev Result : Five → Took Five → Type 0
 Result m t = Keeps m t.left t.frame
 
-steps_keep : (n : ℕ) (m : Five) (marks : List ℕ) → Good m → Result m (steps n m marks)
+steps_keep : (n : ℕ) (m : Five) (keys : List ℕ) → Good m → Result m (steps n m keys)
 unfolding steps
-steps_keep zero m marks good = λ g. refl
-steps_keep (suc n) m marks good = elim (cases_step (step m marks).frame) [
-  | inr y ↦ subst (Result m) (sym (step_first n m marks y.0 y.1)) (step_keeps m marks good)
-  | inl e ↦ subst (Result m) (sym (step_on n m marks e))
-      (keeps_after m (step m marks).left (steps n (step m marks).left (step m marks).keys).left (steps n (step m marks).left (step m marks).keys).frame
-      (step_same m marks good e) (steps_keep n (step m marks).left (step m marks).keys (step_good m marks good)))
+steps_keep zero m keys good = λ g. refl
+steps_keep (suc n) m keys good = elim (cases_step (step m keys).frame) [
+  | inr y ↦ subst (Result m) (sym (step_first n m keys y.0 y.1)) (step_keeps m keys good)
+  | inl e ↦ subst (Result m) (sym (step_on n m keys e))
+      (keeps_after m (step m keys).left (steps n (step m keys).left (step m keys).keys).left (steps n (step m keys).left (step m keys).keys).frame
+      (step_same m keys good e) (steps_keep n (step m keys).left (step m keys).keys (step_good m keys good)))
 ]
 
 -- Enough steps that take none: nothing is held.
-ends : (n : ℕ) (m : Five) (marks : List ℕ) → Good m → weight m marks ≤ n → (steps n m marks).frame ≡ None → (g : ℕ) → times_held m g ≡ 0
-ends zero m marks good w e g = ap (λ x. times_held x g) (is_empty m (let s = size_weight m marks in omega arith))
-ends (suc n) m marks good w e g = elim (cases_lt 0 (size m)) [
+ends : (n : ℕ) (m : Five) (keys : List ℕ) → Good m → weight m keys ≤ n → (steps n m keys).frame ≡ None → (g : ℕ) → times_held m g ≡ 0
+ends zero m keys good w e g = ap (λ x. times_held x g) (is_empty m (let s = size_weight m keys in omega arith))
+ends (suc n) m keys good w e g = elim (cases_lt 0 (size m)) [
   | inr z ↦ ap (λ x. times_held x g) (is_empty m (omega arith))
-  | inl h ↦ (elim (cases_step (step m marks).frame) [
-    | inr y ↦ (let s = ap (λ (t : Took Five). t.frame) (step_first n m marks y.0 y.1) in let d = y.1 in let z : ◌≡◌ {A = ℕ} 0 1 = cc in absurd (omega arith))
-    | inl d ↦ (let l = step_less m marks h d in
-        sym (step_same m marks good d g)
-        ∙ ends n (step m marks).left (step m marks).keys (step_good m marks good) (omega arith) (sym (ap (λ (t : Took Five). t.frame) (step_on n m marks d)) ∙ e) g)
+  | inl h ↦ (elim (cases_step (step m keys).frame) [
+    | inr y ↦ (let s = ap (λ (t : Took Five). t.frame) (step_first n m keys y.0 y.1) in let d = y.1 in let z : ◌≡◌ {A = ℕ} 0 1 = cc in absurd (omega arith))
+    | inl d ↦ (let l = step_less m keys h d in
+        sym (step_same m keys good d g)
+        ∙ ends n (step m keys).left (step m keys).keys (step_good m keys good) (omega arith) (sym (ap (λ (t : Took Five). t.frame) (step_on n m keys d)) ∙ e) g)
   ])
 ]
 
@@ -151,38 +151,38 @@ picks_of : (m left : Five) (o : Option ℕ) → (o ≡ None → (g : ℕ) → ti
 picks_of m left None none k = (none refl, λ g. k g ∙ none refl g)
 picks_of m left (Some f) none k = k
 
-picks : (m : Five) (marks : List ℕ) → Good m → Picks five_rules m (taken m marks).left (taken m marks).frame
-picks m marks good =
-    picks_of m (taken m marks).left (taken m marks).frame (ends (6 * size m) m marks good (weight_six m marks)) (steps_keep (6 * size m) m marks good)
+picks : (m : Five) (keys : List ℕ) → Good m → Picks five_rules m (taken m keys).left (taken m keys).frame
+picks m keys good =
+    picks_of m (taken m keys).left (taken m keys).frame (ends (6 * size m) m keys good (weight_six m keys)) (steps_keep (6 * size m) m keys good)
 
 -- the keys
-keys_q00 : (ref chg : Bool) (m : Five) (marks : List ℕ) (f : ℕ) → KeysKept marks (seen_q00 ref chg m marks f).keys
-keys_q00 false false m marks f = kept_one marks f
-keys_q00 false true m marks f = kept_one marks f
-keys_q00 true false m marks f = kept_one marks f
-keys_q00 true true m marks f = kept_one marks f
+keys_q00 : (ref chg : Bool) (m : Five) (keys : List ℕ) (f : ℕ) → KeysKept keys (seen_q00 ref chg m keys f).keys
+keys_q00 false false m keys f = kept_one keys f
+keys_q00 false true m keys f = kept_one keys f
+keys_q00 true false m keys f = kept_one keys f
+keys_q00 true true m keys f = kept_one keys f
 
-keys_q01 : (ref : Bool) (m : Five) (marks : List ℕ) (f : ℕ) → KeysKept marks (seen_q01 ref m marks f).keys
-keys_q01 false m marks f = kept_one marks f
-keys_q01 true m marks f = kept_one marks f
+keys_q01 : (ref : Bool) (m : Five) (keys : List ℕ) (f : ℕ) → KeysKept keys (seen_q01 ref m keys f).keys
+keys_q01 false m keys f = kept_one keys f
+keys_q01 true m keys f = kept_one keys f
 
-keys_at : (xs ys : List ℕ) (m : Five) (marks : List ℕ) → KeysKept marks (step_at xs ys m marks).keys
-keys_at (f ∷ fs) ys m marks = keys_q00 (referred (slice_index marks f)) (changed (slice_index marks f)) m marks f
-keys_at [] (f ∷ fs) m marks = keys_q01 (referred (slice_index marks f)) m marks f
-keys_at [] [] m marks = kept_all marks
+keys_at : (xs ys : List ℕ) (m : Five) (keys : List ℕ) → KeysKept keys (step_at xs ys m keys).keys
+keys_at (f ∷ fs) ys m keys = keys_q00 (referred (slice_index keys f)) (changed (slice_index keys f)) m keys f
+keys_at [] (f ∷ fs) m keys = keys_q01 (referred (slice_index keys f)) m keys f
+keys_at [] [] m keys = kept_all keys
 
-pub keys_kept : (n : ℕ) (m : Five) (marks : List ℕ) → KeysKept marks (steps n m marks).keys
+pub keys_kept : (n : ℕ) (m : Five) (keys : List ℕ) → KeysKept keys (steps n m keys).keys
 unfolding steps
-keys_kept zero m marks = kept_all marks
-keys_kept (suc n) m marks = elim (cases_step (step m marks).frame) [
-  | inr y ↦ subst (λ (t : Took Five). KeysKept marks t.keys) (sym (step_first n m marks y.0 y.1)) (keys_at m.q00 m.q01 m marks)
-  | inl e ↦ subst (λ (t : Took Five). KeysKept marks t.keys) (sym (step_on n m marks e))
-      (kept_then marks (step m marks).keys (steps n (step m marks).left (step m marks).keys).keys (keys_at m.q00 m.q01 m marks)
-      (keys_kept n (step m marks).left (step m marks).keys))
+keys_kept zero m keys = kept_all keys
+keys_kept (suc n) m keys = elim (cases_step (step m keys).frame) [
+  | inr y ↦ subst (λ (t : Took Five). KeysKept keys t.keys) (sym (step_first n m keys y.0 y.1)) (keys_at m.q00 m.q01 m keys)
+  | inl e ↦ subst (λ (t : Took Five). KeysKept keys t.keys) (sym (step_on n m keys e))
+      (kept_then keys (step m keys).keys (steps n (step m keys).left (step m keys).keys).keys (keys_at m.q00 m.q01 m keys)
+      (keys_kept n (step m keys).left (step m keys).keys))
 ]
 
-pub taken_good : (m : Five) (marks : List ℕ) → Good m → Good (taken m marks).left
-taken_good m marks good = keeps_good m (taken m marks).left (taken m marks).frame good (steps_keep (6 * size m) m marks good)
+pub taken_good : (m : Five) (keys : List ℕ) → Good m → Good (taken m keys).left
+taken_good m keys good = keeps_good m (taken m keys).left (taken m keys).frame good (steps_keep (6 * size m) m keys good)
 
 pub five_lawful : Lawful five_rules
 five_lawful = record {
@@ -190,8 +190,8 @@ five_lawful = record {
   small = λ m f o. (o f).1;
   enter_good = λ m f o. put_good m (on Hq m f) f (on_times Hq m f) o;
   enter_times = λ m f g o. put_times m (on Hq m f) f (on_times Hq m f) g;
-  back_good = λ m f ref chg o. put_good m (on (queue_for ref chg) m f) f (on_times (queue_for ref chg) m f) o;
-  back_times = λ m f g ref chg o. put_times m (on (queue_for ref chg) m f) f (on_times (queue_for ref chg) m f) g;
+  return_good = λ m f ref chg o. put_good m (on (queue_for ref chg) m f) f (on_times (queue_for ref chg) m f) o;
+  return_times = λ m f g ref chg o. put_times m (on (queue_for ref chg) m f) f (on_times (queue_for ref chg) m f) g;
   leave_good = λ m f o g. elim (cases_eq g f) [
     | inl e ↦ (let t : times_held (dropped m f) g ≡ 0 = ap (times_held (dropped m f)) e ∙ dropped_same m f in (omega arith, λ big. t))
     | inr ne ↦ (let t = dropped_other m f g ne in (omega (arith, (o g).0), λ big. t ∙ (o g).1 big))
@@ -203,13 +203,13 @@ five_lawful = record {
   clear_times = λ m g o. refl;
   take_good = taken_good;
   take_picks = picks;
-  take_keys = λ m marks o. keys_kept (6 * size m) m marks;
+  take_keys = λ m keys o. keys_kept (6 * size m) m keys;
 }
 
 -- a frame that is not the one taken is held as it was
-pub taken_times : (m : Five) (marks : List ℕ) → Good m → (g : ℕ) → ((taken m marks).frame ≢ Some g) → times_held (taken m marks).left g ≡ times_held m g
-taken_times m marks good g ne = others (taken m marks).frame ne (steps_keep (6 * size m) m marks good)
+pub taken_times : (m : Five) (keys : List ℕ) → Good m → (g : ℕ) → ((taken m keys).frame ≢ Some g) → times_held (taken m keys).left g ≡ times_held m g
+taken_times m keys good g ne = others (taken m keys).frame ne (steps_keep (6 * size m) m keys good)
   where
-    others : (o : Option ℕ) → (o ≢ Some g) → Keeps m (taken m marks).left o → times_held (taken m marks).left g ≡ times_held m g
+    others : (o : Option ℕ) → (o ≢ Some g) → Keeps m (taken m keys).left o → times_held (taken m keys).left g ≡ times_held m g
     others None ne k = k g
     others (Some f) ne k = k.1 g ∙ cond-false (g == f) 0 (times_held m g) (ne_eqb g f (λ e. ne (ap Some (sym e))))

@@ -34,13 +34,13 @@ unless None stop more = more
 
 -- the frames that Take looks at, in at most n steps
 unfoldable pub looked : ℕ → Five → List ℕ → List ℕ
-looked zero m marks = []
-looked (suc n) m marks = looked_at m ++ unless (step m marks).frame [] (looked n (step m marks).left (step m marks).keys)
+looked zero m keys = []
+looked (suc n) m keys = looked_at m ++ unless (step m keys).frame [] (looked n (step m keys).left (step m keys).keys)
 
 -- how often it turns the names
 unfoldable pub turns : ℕ → Five → List ℕ → ℕ
-turns zero m marks = 0
-turns (suc n) m marks = unless (step m marks).frame 0 (turns_from m.q00 m.q01 (turns n (step m marks).left (step m marks).keys))
+turns zero m keys = 0
+turns (suc n) m keys = unless (step m keys).frame 0 (turns_from m.q00 m.q01 (turns n (step m keys).left (step m keys).keys))
 
 -- the queues without the frames of a list
 abbrev pub keep : List ℕ → Five → Five
@@ -49,9 +49,9 @@ keep (f ∷ fs) m = dropped (keep fs m) f
 
 -- The frame that is taken was looked at, after some steps that took none, with its reference bit off.
 abbrev pub Unreferred : Five → List ℕ → Option ℕ → Type 0
-Unreferred m marks None = Unit {0}
-Unreferred m marks (Some f) =
-    (n : ℕ) × ((steps n m marks).frame ≡ None) × (looked_at (steps n m marks).left ≡ f ∷ []) × (referred (slice_index (steps n m marks).keys f) ≡ false)
+Unreferred m keys None = Unit {0}
+Unreferred m keys (Some f) =
+    (n : ℕ) × ((steps n m keys).frame ≡ None) × (looked_at (steps n m keys).left ≡ f ∷ []) × (referred (slice_index (steps n m keys).keys f) ≡ false)
 
 -- A frame stands in one queue, once, and in no other.
 pub record InOne (m : Five) (f : ℕ) : Type 0 where
@@ -59,13 +59,13 @@ pub record InOne (m : Five) (f : ℕ) : Type 0 where
   pub there : times_in f (frames_of m queue) ≡ 1
   pub nowhere_else : (other : Queue) → (other ≢ queue) → times_in f (frames_of m other) ≡ 0
 
--- What Take does, where the queues and keys were m and marks, the answer is o, and the keys and queues are then marks' and left.
-pub record TakeLaws (m : Five) (marks : List ℕ) (o : Option ℕ) (marks' : List ℕ) (left : Five) : Type 0 where
+-- What Take does, where the queues and keys were m and keys, the answer is o, and the keys and queues are then keys' and left.
+pub record TakeLaws (m : Five) (keys : List ℕ) (o : Option ℕ) (keys' : List ℕ) (left : Five) : Type 0 where
   -- the frame answered had its reference bit off when it was looked at
-  pub unreferred : Unreferred m marks o
+  pub unreferred : Unreferred m keys o
   -- no change bit is altered
-  pub change_kept : (f : ℕ) → changed (slice_index marks' f) ≡ changed (slice_index marks f)
+  pub change_kept : (f : ℕ) → changed (slice_index keys' f) ≡ changed (slice_index keys f)
   -- each frame left is in exactly one queue
   pub in_one : (f : ℕ) → times_held m f ≡ 1 → (o ≢ Some f) → InOne left f
   -- the frames that were not looked at stand in the same queues and in the same order, but for the turns of the names
-  pub order_kept : keep (looked (6 * size m) m marks) left ≡ turned_by (turns (6 * size m) m marks) (keep (looked (6 * size m) m marks) m)
+  pub order_kept : keep (looked (6 * size m) m keys) left ≡ turned_by (turns (6 * size m) m keys) (keep (looked (6 * size m) m keys) m)

@@ -41,47 +41,47 @@ module _ (m : Five) (f : ℕ) (good : Good m) (h : 255 < f) where
 
 -- what is left of Take
 abbrev pub rest : Five → List ℕ → Took Five
-rest m marks = steps (weight m marks) m marks
+rest m keys = steps (weight m keys) m keys
 
-pub rest_start : (m : Five) (marks : List ℕ) → rest m marks ≡ taken m marks
-rest_start m marks = settle (weight m marks) (6 * size m) m marks (omega arith) (weight_six m marks)
+pub rest_start : (m : Five) (keys : List ℕ) → rest m keys ≡ taken m keys
+rest_start m keys = settle (weight m keys) (6 * size m) m keys (omega arith) (weight_six m keys)
 
-pub rest_on : (m : Five) (marks : List ℕ) → 0 < size m → (step m marks).frame ≡ None → rest (step m marks).left (step m marks).keys ≡ rest m marks
-rest_on m marks h e =
-    let l = step_less m marks h e in
-    let w : weight m marks ≡ suc (weight m marks - 1) = omega arith in
-    settle (weight (step m marks).left (step m marks).keys) (weight m marks - 1) (step m marks).left (step m marks).keys (omega arith) (omega arith)
-    ∙ sym (step_on (weight m marks - 1) m marks e) ∙ ap (λ n. steps n m marks) (sym w)
+pub rest_on : (m : Five) (keys : List ℕ) → 0 < size m → (step m keys).frame ≡ None → rest (step m keys).left (step m keys).keys ≡ rest m keys
+rest_on m keys h e =
+    let l = step_less m keys h e in
+    let w : weight m keys ≡ suc (weight m keys - 1) = omega arith in
+    settle (weight (step m keys).left (step m keys).keys) (weight m keys - 1) (step m keys).left (step m keys).keys (omega arith) (omega arith)
+    ∙ sym (step_on (weight m keys - 1) m keys e) ∙ ap (λ n. steps n m keys) (sym w)
 
-pub rest_taken : (m : Five) (marks : List ℕ) (f : ℕ) → 0 < size m → (step m marks).frame ≡ Some f → step m marks ≡ rest m marks
-rest_taken m marks f h e =
-    let s = size_weight m marks in
-    let w : weight m marks ≡ suc (weight m marks - 1) = omega arith in
-    sym (step_first (weight m marks - 1) m marks f e) ∙ ap (λ n. steps n m marks) (sym w)
+pub rest_taken : (m : Five) (keys : List ℕ) (f : ℕ) → 0 < size m → (step m keys).frame ≡ Some f → step m keys ≡ rest m keys
+rest_taken m keys f h e =
+    let s = size_weight m keys in
+    let w : weight m keys ≡ suc (weight m keys - 1) = omega arith in
+    sym (step_first (weight m keys - 1) m keys f e) ∙ ap (λ n. steps n m keys) (sym w)
 
-pub rest_none : (m : Five) (marks : List ℕ) → size m ≡ 0 → record { frame = None; keys = marks; left = m } ≡ rest m marks
-rest_none m marks z = sym (none_steps (weight m marks) m marks z)
+pub rest_none : (m : Five) (keys : List ℕ) → size m ≡ 0 → record { frame = None; keys = keys; left = m } ≡ rest m keys
+rest_none m keys z = sym (none_steps (weight m keys) m keys z)
 
 -- the loop of Take, from m₀ and k₀, at m and k
 module _ (m₀ m m' : Five) (k₀ k k' : List ℕ) (inv : rest m k ≡ rest m₀ k₀) where
   all : rest m k ≡ taken m₀ k₀
   all = inv ∙ rest_start m₀ k₀
 
-  module _ (some : true ≡ nat_lt 0 (size m)) (marks : k' ≡ (step m k).keys) (after : m' ≡ (step m k).left) where
+  module _ (some : true ≡ nat_lt 0 (size m)) (keys : k' ≡ (step m k).keys) (after : m' ≡ (step m k).left) where
     pub loop_taken : (f : ℕ) → Some f ≡ (step m k).frame → (Some f ≡ (taken m₀ k₀).frame) × (k' ≡ (taken m₀ k₀).keys) × (m' ≡ (taken m₀ k₀).left)
     loop_taken f e =
         let t = rest_taken m k f (ltb-true 0 (size m) (sym some)) (sym e) ∙ all in
-        (e ∙ ap (λ (t : Took Five). t.frame) t, marks ∙ ap (λ (t : Took Five). t.keys) t, after ∙ ap (λ (t : Took Five). t.left) t)
+        (e ∙ ap (λ (t : Took Five). t.frame) t, keys ∙ ap (λ (t : Took Five). t.keys) t, after ∙ ap (λ (t : Took Five). t.left) t)
 
     pub loop_less : None ≡ (step m k).frame → weight m' k' < weight m k
     loop_less e =
         let l = step_less m k (ltb-true 0 (size m) (sym some)) (sym e) in
-        let w : weight m' k' ≡ weight (step m k).left (step m k).keys = ap (λ x. weight x k') after ∙ ap (weight (step m k).left) marks in
+        let w : weight m' k' ≡ weight (step m k).left (step m k).keys = ap (λ x. weight x k') after ∙ ap (weight (step m k).left) keys in
         omega arith
 
     pub loop_again : None ≡ (step m k).frame → rest m' k' ≡ rest m₀ k₀
     loop_again e =
-        ap (λ x. rest x k') after ∙ ap (rest (step m k).left) marks ∙ rest_on m k (ltb-true 0 (size m) (sym some)) (sym e) ∙ inv
+        ap (λ x. rest x k') after ∙ ap (rest (step m k).left) keys ∙ rest_on m k (ltb-true 0 (size m) (sym some)) (sym e) ∙ inv
 
   pub loop_none : false ≡ nat_lt 0 (size m) → (None ≡ (taken m₀ k₀).frame) × (k ≡ (taken m₀ k₀).keys) × (m ≡ (taken m₀ k₀).left)
   loop_none none =

@@ -36,7 +36,7 @@ impl FiveQueues {
     /// Takes a frame: a step after another, until one takes a frame or none is held.
     pub fn pick(&mut self, keys: &mut [u8; 256]) -> Option<u8>
         ensures answer { result ≡ (taken self.old.queues keys.old).frame }
-        ensures marks { keys.new ≡ (taken self.old.queues keys.old).keys }
+        ensures keys { keys.new ≡ (taken self.old.queues keys.old).keys }
         ensures after { self.new.queues ≡ (taken self.old.queues keys.old).left }
         ensures laws { TakeLaws self.old.queues keys.old result keys.new self.new.queues }
     {

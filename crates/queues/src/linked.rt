@@ -1,7 +1,7 @@
 ghost use Rattle.std.specs.Prelude.{◌≡◌, ◌+◌, ◌%◌, IfOk, if◌then◌else◌, ◌==◌, nat_eq, nat_lt, slice_index};
 ghost use Rattle.frames.specs.Keys.{referred, changed};
 ghost use Rattle.queues.specs.Five.{empty, times_held, size, dropped, on, turned, step as step_of, taken};
-ghost use Rattle.queues.specs.Five.{seen_q00 as seen_first, seen_q01 as seen_second, marked_off as turned_off};
+ghost use Rattle.queues.specs.Five.{seen_q00 as seen_first, seen_q01 as seen_second, turned_off};
 ghost use Rattle.queues.specs.Names.{number_of, frames_of, head_of};
 
 use super::chain::Chain;
@@ -123,7 +123,7 @@ impl LinkedQueues {
     // Looks at the head of Q00: with reference and change bit off it is taken, else it goes to the tail of Q01, Q10 or Q11.
     fn look_first(&mut self, keys: &mut [u8; 256], frame: u8) -> Option<u8>
         ensures answer { result ≡ (seen_first (referred (slice_index keys.old frame)) (changed (slice_index keys.old frame)) self.old keys.old frame).frame }
-        ensures marks { keys.new ≡ (seen_first (referred (slice_index keys.old frame)) (changed (slice_index keys.old frame)) self.old keys.old frame).keys }
+        ensures keys { keys.new ≡ (seen_first (referred (slice_index keys.old frame)) (changed (slice_index keys.old frame)) self.old keys.old frame).keys }
         ensures after { self.new ≡ (seen_first (referred (slice_index keys.old frame)) (changed (slice_index keys.old frame)) self.old keys.old frame).left }
     {
         let bits = note(keys, frame);
@@ -138,7 +138,7 @@ impl LinkedQueues {
     // Looks at the head of Q01: with the reference bit off it is taken, else it goes to the tail of Q11.
     fn look_second(&mut self, keys: &mut [u8; 256], frame: u8) -> Option<u8>
         ensures answer { result ≡ (seen_second (referred (slice_index keys.old frame)) self.old keys.old frame).frame }
-        ensures marks { keys.new ≡ (seen_second (referred (slice_index keys.old frame)) self.old keys.old frame).keys }
+        ensures keys { keys.new ≡ (seen_second (referred (slice_index keys.old frame)) self.old keys.old frame).keys }
         ensures after { self.new ≡ (seen_second (referred (slice_index keys.old frame)) self.old keys.old frame).left }
     {
         if note(keys, frame).referred {
@@ -152,7 +152,7 @@ impl LinkedQueues {
     // One step of Take: a look at the head of Q00, or of Q01 where Q00 is empty, or a turn of the names.
     fn step(&mut self, keys: &mut [u8; 256]) -> Option<u8>
         ensures answer { result ≡ (step_of self.old keys.old).frame }
-        ensures marks { keys.new ≡ (step_of self.old keys.old).keys }
+        ensures keys { keys.new ≡ (step_of self.old keys.old).keys }
         ensures after { self.new ≡ (step_of self.old keys.old).left }
     {
         if let Some(frame) = self.head(Queue::Q00) {
@@ -168,7 +168,7 @@ impl LinkedQueues {
     /// Takes a frame: a step after another, until one takes a frame or none is held.
     pub fn pick(&mut self, keys: &mut [u8; 256]) -> Option<u8>
         ensures answer { result ≡ (taken self.old keys.old).frame }
-        ensures marks { keys.new ≡ (taken self.old keys.old).keys }
+        ensures keys { keys.new ≡ (taken self.old keys.old).keys }
         ensures after { self.new ≡ (taken self.old keys.old).left }
     {
         while self.any() {
@@ -208,7 +208,7 @@ fn number(first: u8, queue: Queue) -> u16
 fn note(keys: &mut [u8; 256], frame: u8) -> KeyBits
     ensures reference { result.referred ≡ referred (slice_index keys.old frame) }
     ensures change { result.changed ≡ changed (slice_index keys.old frame) }
-    ensures marks { keys.new ≡ turned_off keys.old frame }
+    ensures keys { keys.new ≡ turned_off keys.old frame }
 {
     let key = keys[frame as usize];
     keys[frame as usize] = frames::reference_off(key);

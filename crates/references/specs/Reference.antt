@@ -7,24 +7,24 @@ use Rattle.recency.specs.Places.{place_of}
 -- the policy, the storage keys, and the page in each frame
 pub record State (M : Type 0) : Type 0 where
   pub held : M
-  pub marks : List ℕ
+  pub keys : List ℕ
   pub pages : List ℕ
 
 -- the frames 1 to n are returned, in order, with reference and change bit off
 abbrev pub returned : {M : Type 0} → Rules M → M → ℕ → M
 returned r m zero = m
-returned r m (suc n) = r.give_back (returned r m n) (suc n) false false
+returned r m (suc n) = r.return_frame (returned r m n) (suc n) false false
 
 -- a page that is in no frame: the frame that was taken holds it, and is entered
 abbrev pub brought : {M : Type 0} → Rules M → ℕ → List ℕ → Took M → Option ℕ → State M
-brought r page pages t (Some f) = record { held = r.enter t.left f; marks = slice_set t.keys f (reference_on 0); pages = slice_set pages f page }
-brought r page pages t None = record { held = t.left; marks = t.keys; pages = pages }
+brought r page pages t (Some f) = record { held = r.enter t.left f; keys = slice_set t.keys f (reference_on 0); pages = slice_set pages f page }
+brought r page pages t None = record { held = t.left; keys = t.keys; pages = pages }
 
 -- a page that is in the frame f, or in none
 abbrev pub referred_at : {M : Type 0} → Rules M → ℕ → M → List ℕ → List ℕ → Option ℕ → State M
-referred_at r page m marks pages (Some f) = record { held = r.touch m f; marks = slice_set marks f (reference_on (slice_index marks f)); pages = pages }
-referred_at r page m marks pages None = brought r page pages (r.take m marks) (r.take m marks).frame
+referred_at r page m keys pages (Some f) = record { held = r.touch m f; keys = slice_set keys f (reference_on (slice_index keys f)); pages = pages }
+referred_at r page m keys pages None = brought r page pages (r.take m keys) (r.take m keys).frame
 
 -- a reference to a page
 abbrev pub referred_to : {M : Type 0} → Rules M → ℕ → M → List ℕ → List ℕ → State M
-referred_to r page m marks pages = referred_at r page m marks pages (place_of (λ x. x) page pages 0)
+referred_to r page m keys pages = referred_at r page m keys pages (place_of (λ x. x) page pages 0)

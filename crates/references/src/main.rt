@@ -15,7 +15,7 @@ use queues::{FiveQueues, Queue};
 // Frames 1 to 4 are returned, in order, with reference and change bit off. No frame has a page yet.
 fn filled<P: Policy>(mut policy: P) -> Player<P>
     ensures held { P.Policy.model result.policy ≡ returned P.Policy.rules (P.Policy.model policy) 4 }
-    ensures marks { result.keys ≡ replicate 256 0 }
+    ensures keys { result.keys ≡ replicate 256 0 }
     ensures pages { result.pages ≡ replicate 256 0 }
 {
     let off = KeyBits {

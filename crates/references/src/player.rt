@@ -17,7 +17,7 @@ impl<P: Policy> Player<P> {
     // Refers to a page. If it is in a frame, that frame is touched; else it goes into a frame that the policy takes.
     pub fn refer(&mut self, page: u8)
         ensures held { P.Policy.model self.new.policy ≡ (referred_to P.Policy.rules page (P.Policy.model self.old.policy) self.old.keys self.old.pages).held }
-        ensures marks { self.new.keys ≡ (referred_to P.Policy.rules page (P.Policy.model self.old.policy) self.old.keys self.old.pages).marks }
+        ensures keys { self.new.keys ≡ (referred_to P.Policy.rules page (P.Policy.model self.old.policy) self.old.keys self.old.pages).keys }
         ensures pages { self.new.pages ≡ (referred_to P.Policy.rules page (P.Policy.model self.old.policy) self.old.keys self.old.pages).pages }
     {
         if let Some(frame) = recency::find(&self.pages, page as u32) {

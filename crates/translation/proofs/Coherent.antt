@@ -15,12 +15,12 @@ use Rattle.translation.specs.Walked.{agreed_by, by_agreed, walk_stops}
 
 -- Every pair agrees with the walk.
 abbrev pub Coherent : {M : Type 0} → Rules M → List ℕ → M → Type 0
-Coherent r s m = (page start : ℕ) → r.vouches m page start ≡ true → Agrees s (r.controls m) page start
+Coherent r s m = (page start : ℕ) → r.has_pair m page start ≡ true → Agrees s (r.controls m) page start
 
 module _ {M : Type 0} (r : Rules M) (law : Lawful r) (s : List ℕ) (m : M) (g : r.good m) (agree : Coherent r s m) where
   by_any : (a : ℕ) (q : Result Sizes Refusal) (answer : Answer) → checked (r.controls m) a ≡ q → Answers r m s a q answer → answer ≡ walk s (r.controls m) a
   by_any a (Err why) answer e h = h ∙ sym (walk_stops s (r.controls m) a why e)
-  by_any a (Ok z) answer e (inl p) = p.answered ∙ sym (by_agreed s (r.controls m) a p.start z e (agree (page_number z a) p.start p.vouched))
+  by_any a (Ok z) answer e (inl p) = p.answered ∙ sym (by_agreed s (r.controls m) a p.start z e (agree (page_number z a) p.start p.paired))
   by_any a (Ok z) answer e (inr w) = w.answered
 
   pub as_walk : (a : ℕ) → (r.translate m s a).answer ≡ walk s (r.controls m) a

@@ -46,13 +46,13 @@ module _ {M : Type 0} (below : Rules M) (law : Lawful below) (m : M) (ps : List 
       → ByPair (tlb_rules below) (m, ps) s a z (looked below m ps s a z o).answer ⊎ ByWalk (tlb_rules below) (m, ps) s a z (looked below m ps s a z o).answer
   looked_answers z e (Some i) f = inl (record {
     start = (slice_index_or ps i (pair_of 0 0)).start;
-    vouched = or_left _ _ (has_found ps (page_number z a) i f).1;
+    paired = or_left _ _ (has_found ps (page_number z a) i f).1;
     answered = hit_answer i (located s (slice_index_or ps i (pair_of 0 0)).start (byte_index z a));
   })
   looked_answers z e None f =
       let told = missed_answer (below.translate m s a).left (page_number z a) (byte_index z a) (below.translate m s a).answer in
       elim (below_answers z e) [
-        | inl p ↦ inl (record { start = p.start; vouched = or_right (has ps (page_number z a) p.start) _ p.vouched; answered = told ∙ p.answered })
+        | inl p ↦ inl (record { start = p.start; paired = or_right (has ps (page_number z a) p.start) _ p.paired; answered = told ∙ p.answered })
         | inr w ↦ inr (record { unknown = λ start. or_from _ _ (has_nowhere ps (page_number z a) 0 f start) (w.unknown start); answered = told ∙ w.answered })
       ]
 
@@ -61,11 +61,11 @@ module _ {M : Type 0} (below : Rules M) (law : Lawful below) (m : M) (ps : List 
   sized_answers (Err why) e = refl
 
   abbrev Kept : Translated (M × List Pair) → Type 0
-  Kept t = (page start : ℕ) → (tlb_rules below).vouches t.left page start ≡ true
-      → ((tlb_rules below).vouches (m, ps) page start ≡ true) ⊎ Just (below.controls m) a page start t.answer
+  Kept t = (page start : ℕ) → (tlb_rules below).has_pair t.left page start ≡ true
+      → ((tlb_rules below).has_pair (m, ps) page start ≡ true) ⊎ Just (below.controls m) a page start t.answer
 
   hit_kept : (i : ℕ) (answer : Answer) → Kept (hit m ps i answer)
-  hit_kept i (Ok real) page start e = inl (elim (or_cases _ (below.vouches m page start) e)
+  hit_kept i (Ok real) page start e = inl (elim (or_cases _ (below.has_pair m page start) e)
       [ inl h ↦ or_left _ _ (has_at_end ps i page start h) | inr h ↦ or_right (has ps page start) _ h ])
   hit_kept i (Err why) page start e = inl e
 
@@ -78,8 +78,8 @@ module _ {M : Type 0} (below : Rules M) (law : Lawful below) (m : M) (ps : List 
       answered = ap Ok (let k : real ≡ start + byte_index z a = omega (arith, q) in k);
     }
 
-    below_kept : (answer : Answer) → (below.translate m s a).answer ≡ answer → (page start : ℕ) → below.vouches (below.translate m s a).left page start ≡ true
-        → ((tlb_rules below).vouches (m, ps) page start ≡ true) ⊎ Just (below.controls m) a page start answer
+    below_kept : (answer : Answer) → (below.translate m s a).answer ≡ answer → (page start : ℕ) → below.has_pair (below.translate m s a).left page start ≡ true
+        → ((tlb_rules below).has_pair (m, ps) page start ≡ true) ⊎ Just (below.controls m) a page start answer
     below_kept answer f page start e = elim (law.translate_pairs m s a page start g e) [
       | inl h ↦ inl (or_right (has ps page start) _ h)
       | inr j ↦ inr (subst (Just (below.controls m) a page start) f j)
@@ -90,12 +90,12 @@ module _ {M : Type 0} (below : Rules M) (law : Lawful below) (m : M) (ps : List 
     missed_kept (Ok real) f page start e =
         let fits : byte_index z a ≤ real =
         byte_within below m s a real z passed (subst (λ r. ByPair below m s a z r ⊎ ByWalk below m s a z r) f (below_answers z passed)) in
-        elim (or_cases _ (below.vouches (below.translate m s a).left page start) e) [
+        elim (or_cases _ (below.has_pair (below.translate m s a).left page start) e) [
           | inl h ↦ elim (has_put 8 ps (pair_of (page_number z a) (real - byte_index z a)) page start h)
               [ inl k ↦ inl (or_left _ _ k) | inr k ↦ inr (just_put real page start fits k) ]
           | inr h ↦ below_kept (Ok real) f page start h
         ]
-    missed_kept (Err why) f page start e = elim (or_cases _ (below.vouches (below.translate m s a).left page start) e)
+    missed_kept (Err why) f page start e = elim (or_cases _ (below.has_pair (below.translate m s a).left page start) e)
         [ inl h ↦ inl (or_left _ _ h) | inr h ↦ below_kept (Err why) f page start h ]
 
     looked_kept : (o : Option ℕ) → Kept (looked below m ps s a z o)
@@ -108,7 +108,7 @@ module _ {M : Type 0} (below : Rules M) (law : Lawful below) (m : M) (ps : List 
 
   -- A refusal keeps the pairs.
   abbrev Same : Translated (M × List Pair) → Type 0
-  Same t = (why : Refusal) → t.answer ≡ Err why → (page start : ℕ) → (tlb_rules below).vouches t.left page start ≡ (tlb_rules below).vouches (m, ps) page start
+  Same t = (why : Refusal) → t.answer ≡ Err why → (page start : ℕ) → (tlb_rules below).has_pair t.left page start ≡ (tlb_rules below).has_pair (m, ps) page start
 
   hit_same : (i : ℕ) (answer : Answer) → Same (hit m ps i answer)
   hit_same i (Ok real) why e page start = refused e
@@ -147,7 +147,7 @@ module _ {M : Type 0} (below : Rules M) (law : Lawful below) (m : M) (ps : List 
   sized_sound (Err w) = ((g, few), refl)
 
 -- An empty layer has no pair of its own.
-empty_pairs : {M : Type 0} (below : Rules M) (m : M) (page start : ℕ) → (tlb_rules below).vouches (m, []) page start ≡ true → below.vouches m page start ≡ true
+empty_pairs : {M : Type 0} (below : Rules M) (m : M) (page start : ℕ) → (tlb_rules below).has_pair (m, []) page start ≡ true → below.has_pair m page start ≡ true
 empty_pairs below m page start e = e
 
 pub tlb_lawful : {M : Type 0} (below : Rules M) → Lawful below → Lawful (tlb_rules below)
@@ -166,7 +166,7 @@ tlb_lawful below law = record {
   forget_good = λ t page g. (law.forget_good t.0 page g.0, let l = without_long t.1 page in let h = g.1 in omega arith);
   forget_controls = λ t page g. law.forget_controls t.0 page g.0;
   forget_ends = λ t page start g. or_from _ _ (without_ends t.1 page start) (law.forget_ends t.0 page start g.0);
-  forget_adds_none = λ t gone page start g e. elim (or_cases _ (below.vouches (below.forget t.0 gone) page start) e) [
+  forget_adds_none = λ t gone page start g e. elim (or_cases _ (below.has_pair (below.forget t.0 gone) page start) e) [
     | inl h ↦ or_left _ _ (without_adds t.1 gone page start h)
     | inr h ↦ or_right (has t.1 page start) _ (law.forget_adds_none t.0 gone page start g.0 h)
   ];

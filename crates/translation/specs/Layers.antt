@@ -13,7 +13,7 @@ abbrev pub walker_rules : Rules Controls
 walker_rules = record {
   good = λ _. Unit {0};
   controls = λ w. w;
-  vouches = λ _ _ _. false;
+  has_pair = λ _ _ _. false;
   translate = λ w s a. record { answer = walk s w a; left = w };
   load = λ _ _ w. w;
   purge = λ w _. w;
@@ -62,7 +62,7 @@ abbrev pub tlb_rules : {M : Type 0} → Rules M → Rules (M × List Pair)
 tlb_rules below = record {
   good = λ t. below.good t.0 × (length t.1 ≤ 8);
   controls = λ t. below.controls t.0;
-  vouches = λ t page start. has t.1 page start || below.vouches t.0 page start;
+  has_pair = λ t page start. has t.1 page start || below.has_pair t.0 page start;
   translate = λ t s a. sized below t.0 t.1 s a (checked (below.controls t.0) a);
   load = λ t s w. (below.load t.0 s w, []);
   purge = λ t s. (below.purge t.0 s, []);

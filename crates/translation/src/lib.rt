@@ -1,8 +1,8 @@
 //! Translators: from a virtual address to a real one, with or without lookaside registers.
 //!
-//! `Translator` is the interface; its meaning, both control words and the pages vouched for, and what is certain of every
-//! translator stand in `specs/Translator.antt`. `Walker` walks the tables each time; `Tlb<T>` keeps eight pairs over any
-//! translator. `runs::answer_all` carries the theorem that lookaside registers cannot be told from none.
+//! `Translator` is the interface; its meaning, both control words and its pairs, and what is certain of every translator
+//! stand in `specs/Translator.antt`. `Walker` walks the tables each time; `Tlb<T>` keeps eight pairs over any translator.
+//! `runs::answer_all` carries the theorem that lookaside registers cannot be told from none.
 #![tactic(auto)]
 
 mod pair;

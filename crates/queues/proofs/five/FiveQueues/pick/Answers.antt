@@ -9,4 +9,4 @@ invariant_of-self c = record { good = subst Good (sym c.pick.ensures.after) (fiv
 
 pub returns-clause-laws : goal.returns-clause-laws
 returns-clause-laws c =
-    laws_at c.args.self.now.queues c.args.keys.now c.pick.result c.pick.new.keys c.pick.new.self c.args.self.now.good c.pick.ensures.answer c.pick.ensures.marks c.pick.ensures.after
+    laws_at c.args.self.now.queues c.args.keys.now c.pick.result c.pick.new.keys c.pick.new.self c.args.self.now.good c.pick.ensures.answer c.pick.ensures.keys c.pick.ensures.after

@@ -9,4 +9,4 @@ invariant_of-self c =
     let s = c.args.self.now in
     let f = c.in-Ok.frame in
     let is = linked_entered s.queues (on (queue_for c.args.bits.referred c.args.bits.changed) s.queues f) c.link.new.self f (omega (arith, c.in-Ok.ensures)) (search rules) in
-    record { good = subst Good (sym is) (five_lawful.back_good s.queues f c.args.bits.referred c.args.bits.changed s.good) }
+    record { good = subst Good (sym is) (five_lawful.return_good s.queues f c.args.bits.referred c.args.bits.changed s.good) }

@@ -1,5 +1,5 @@
--- Two wirings of the page fault that lose pages. Each differs from the rules in the second step alone, the emptying of
--- the frame that was taken, and each is refuted by a list of calls that the flat machine answers otherwise.
+-- Two page faults that lose a page. Each differs from the rules in the second step alone, the emptying of the frame that
+-- was taken, and each is refuted by a list of calls that the flat machine answers otherwise.
 use Rattle.std.specs.Prelude.{◌≡◌, ℕ, not, ◌&&◌, List, [], ◌∷◌, Some, None, Ok, Err, Option, Result, ◌==◌, slice_index}
 use Rattle.frames.specs.Held.{times_in}
 use Rattle.frames.specs.Keys as keys
@@ -19,22 +19,22 @@ use Rattle.model.specs.World.{Config}
 use Rattle.cases.specs.Worked.{Machine, off, parts, partition}
 
 -- How a frame is emptied: from the machine before Take, the frame, and the machine after Take.
-abbrev pub Wiring : Type 0
-Wiring = Machine → ℕ → Machine → Machine
+abbrev pub Emptying : Type 0
+Emptying = Machine → ℕ → Machine → Machine
 
 -- As the rules say.
-abbrev pub sound : Wiring
+abbrev pub sound : Emptying
 sound before f w = steps.emptied parts f w
 
 -- The change bit trusted from the queue's name: a frame that stands in Q00 counts as unchanged, whatever its storage key
 -- says, so that its page is not put out.
-abbrev pub by_name : Wiring
+abbrev pub by_name : Emptying
 by_name before f w =
     steps.emptying parts (not (page_in w.records f == no_page))
     (times_in f before.policy.q00 == 0 && keys.changed (slice_index w.keys f)) f (page_in w.records f) w
 
 -- The pair left in the translator: all as the rules say, but no Forget.
-abbrev pub no_forget : Wiring
+abbrev pub no_forget : Emptying
 no_forget before f w = record {
   config = w.config;
   storage = (sound before f w).storage;
@@ -45,8 +45,8 @@ no_forget before f w = record {
   store = (sound before f w).store;
 }
 
-module _ (x : Wiring) where
-  -- A page brought in, the frame that was taken emptied by the wiring.
+module _ (x : Emptying) where
+  -- A page brought in, the frame that was taken emptied so.
   abbrev pub brought_by : ℕ → ℕ → Machine → Option ℕ → Machine
   brought_by p key w (Some f) = w
   brought_by p key w None =
@@ -68,7 +68,7 @@ module _ (x : Wiring) where
 
   abbrev pub fixing_by : Machine → Result Request Refusal → Result Reply Refusal × Machine
   fixing_by w (Err why) = (Err why, w)
-  fixing_by w (Ok q) = (Ok Done, steps.fixed_in1 parts (steps.brought_frame parts w q.frame) (brought_by q.page q.key w q.frame))
+  fixing_by w (Ok q) = (Ok Done, steps.fixed_once parts (steps.brought_frame parts w q.frame) (brought_by q.page q.key w q.frame))
 
   abbrev pub worked_by : Call → Machine → Result Reply Refusal × Machine
   worked_by (Load a key) w = loading_by a w (decode_load w a key)
@@ -86,9 +86,9 @@ module _ (x : Wiring) where
 unfoldable pub started : Config → ℕ → Machine
 started c slots = (ipl parts c (off c.frames slots)).1
 
--- A wiring is refuted: IPL is answered, the wiring gives wrong answers to these calls, and the flat machine gives others,
+-- A page fault with such an emptying is refuted: IPL is answered, it gives wrong answers to these calls, and the flat machine gives others,
 -- which are those of the rules.
-pub record Refuted (x : Wiring) (c : Config) (slots : ℕ) (calls : List Call) (wrong right : List (Result Reply Refusal)) : Type 0 where
+pub record Refuted (x : Emptying) (c : Config) (slots : ℕ) (calls : List Call) (wrong right : List (Result Reply Refusal)) : Type 0 where
   pub answered : (ipl parts c (off c.frames slots)).0 ≡ Ok tt
   pub wrongly : answers_by x calls (started c slots) ≡ wrong
   pub rightly : answers_by sound calls (started c slots) ≡ right
@@ -112,7 +112,7 @@ three = record { frames = 4; supervisor = 2; pages = 5; partitions = partition 2
 abbrev pub no_forget_calls : List Call
 no_forget_calls = Load 4096 1 ∷ Load 6144 1 ∷ Store 8192 1 9 ∷ Load 4096 1 ∷ []
 
-pub record Wirings : Type 0 where
+pub record LosingFaults : Type 0 where
   -- with the emptying of the rules a call is worked as the rules say
   pub same : (c : Call) (w : Machine) → worked_by sound c w ≡ worked parts c w
   pub by_name_refuted : Refuted by_name two 2 by_name_calls (Ok Done ∷ Ok Done ∷ Ok Done ∷ Ok (Byte 0) ∷ Ok (Byte 0) ∷ []) (Ok Done ∷ Ok Done ∷ Ok Done ∷ Ok (Byte 0) ∷ Ok (Byte 7) ∷ [])

@@ -21,22 +21,22 @@ pub off_off : (k : ℕ) → reference_off (reference_off k) ≡ reference_off k
 off_off k = let b = off_bit k in omega arith
 
 -- one frame's reference bit is turned off
-pub kept_one : (marks : List ℕ) (f : ℕ) → KeysKept marks (set marks f (reference_off (get_or marks f 0)))
-kept_one marks f = record {
-  long = length-set marks f (reference_off (get_or marks f 0));
+pub kept_one : (keys : List ℕ) (f : ℕ) → KeysKept keys (set keys f (reference_off (get_or keys f 0)))
+kept_one keys f = record {
+  long = length-set keys f (reference_off (get_or keys f 0));
   each = λ i. elim (cases_eq i f) [
-    | inr ne ↦ inl (get_or-set_other marks f i (reference_off (get_or marks f 0)) 0 ne)
-    | inl e ↦ (elim (cases_lt f (length marks)) [
-      | inl l ↦ inr (ap (λ k. get_or (set marks f (reference_off (get_or marks f 0))) k 0) e ∙ get_or-set_same marks f (reference_off (get_or marks f 0)) 0 l
-          ∙ ap (λ k. reference_off (get_or marks k 0)) (sym e))
-      | inr g ↦ inl (ap (λ l. get_or l i 0) (set_past marks f (reference_off (get_or marks f 0)) g))
+    | inr ne ↦ inl (get_or-set_other keys f i (reference_off (get_or keys f 0)) 0 ne)
+    | inl e ↦ (elim (cases_lt f (length keys)) [
+      | inl l ↦ inr (ap (λ k. get_or (set keys f (reference_off (get_or keys f 0))) k 0) e ∙ get_or-set_same keys f (reference_off (get_or keys f 0)) 0 l
+          ∙ ap (λ k. reference_off (get_or keys k 0)) (sym e))
+      | inr g ↦ inl (ap (λ l. get_or l i 0) (set_past keys f (reference_off (get_or keys f 0)) g))
     ])
   ];
 }
 
 -- nothing is altered
-pub kept_all : (marks : List ℕ) → KeysKept marks marks
-kept_all marks = record { long = refl; each = λ i. inl refl }
+pub kept_all : (keys : List ℕ) → KeysKept keys keys
+kept_all keys = record { long = refl; each = λ i. inl refl }
 
 -- one change after another
 pub kept_then : (before mid after : List ℕ) → KeysKept before mid → KeysKept mid after → KeysKept before after
