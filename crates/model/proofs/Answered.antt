@@ -93,7 +93,7 @@ module _ {T P S : Type 0} (r : Parts T P S) (law : LawfulParts r) where
     belongs_frame : (p f : ℕ) → InTables w.config p → Belongs w.storage p f
         → ((p < w.config.supervisor) × (f ≡ p)) ⊎ (Pageable w.config f × (page_in w.records f ≡ p))
     belongs_frame p f pt b = elim (cases_lt p w.config.supervisor) [
-      | inl l ↦ inl (l, sym (named_frame w.storage p f p (let a = k.fits.some in let c = k.fits.few in omega arith) (d.mem.entries.low p l) b))
+      | inl l ↦ inl (l, sym (named_frame w.storage p f p (let a = k.fits.some in let c = k.fits.few in omega arith) (d.mem.entries.supervisor p l) b))
       | inr l ↦ by_key (key_of w.config.partitions p) refl l
     ]
       where
@@ -109,7 +109,7 @@ module _ {T P S : Type 0} (r : Parts T P S) (law : LawfulParts r) where
 
         by_key : (o : Option ℕ) → key_of w.config.partitions p ≡ o → w.config.supervisor ≤ p
             → ((p < w.config.supervisor) × (f ≡ p)) ⊎ (Pageable w.config f × (page_in w.records f ≡ p))
-        by_key None e l = absurd (invalid_entry w.storage p f 16386 (d.mem.entries.rest p pt l e) (omega arith) b)
+        by_key None e l = absurd (invalid_entry w.storage p f 16386 (d.mem.entries.unused p pt l e) (omega arith) b)
         by_key (Some key) e l = by_frame key e (where_is w p) refl
 
     each : (f : ℕ) → Pageable w.config f → HeldOnce r w m f ⊎ HasFixed r w m f
@@ -165,7 +165,7 @@ module _ {T P S : Type 0} (r : Parts T P S) (law : LawfulParts r) where
     entry_is_lem = ap (λ x. half w.storage (entry_at x) / 2) (sym has) ∙ m.entries.inside f fp ne
 
     segment_is_lem : word w.storage (segment_at (a / 2048 / 32)) ≡ Rattle.model.specs.Layout.segment_word w.config (a / 2048 / 32)
-    segment_is_lem = m.entries.segs (a / 2048 / 32) (let h = (k.fits.keys (a / 2048) key part).1 in omega arith)
+    segment_is_lem = m.entries.segment (a / 2048 / 32) (let h = (k.fits.keys (a / 2048) key part).1 in omega arith)
 
     pub byte_is : get_or w.storage (2048 * f + a % 2048) 0 ≡ get_or bytes a 0
     byte_is =

@@ -7,11 +7,12 @@ use Rattle.model.specs.Law.{Consistent, Pageable}
 use Rattle.model.specs.Layout.{bit15, entry_at, entry_for, fixed_in, fixes_in, frame_is, frame_of, key_of, no_page, page_in, page_is, segment_at, segments}
 use Rattle.model.specs.Refusals.{tables_right, where_is}
 use Rattle.model.specs.Steps.{brought, emptied, emptying, faulted, put_out, read_in, settled_in, settling, swept, taken, taken_frame, taking}
+use Rattle.model.specs.Tests.{Absent, Entries}
 use Rattle.model.specs.World.{LawfulParts, Parts, World}
 use Rattle.model.proofs.Fault.{emptied_body, handed_to, taken_body}
 use Rattle.model.proofs.Find.{all_frames, frame_none, frame_some, is_page}
 use Rattle.model.proofs.Kept.{settled_own}
-use Rattle.model.proofs.Memory.{Absent, Content, Counts, Entries, backing, change_off_lem, changed_off, content_keys, out_other, out_same, settled_content, settled_entries, vacated_bit, vacated_content, vacated_counts, vacated_entries}
+use Rattle.model.proofs.Memory.{Content, Counts, backing, change_off_lem, changed_off, content_keys, out_other, out_same, settled_content, settled_entries, vacated_bit, vacated_content, vacated_counts, vacated_entries}
 use Rattle.model.proofs.Moved.{connected_content, connected_counts, connected_entries}
 use Rattle.model.proofs.Own.{in_keys, read_in_lem, real_page, taken_alike}
 use Rattle.model.proofs.Place.{frame_fits}
@@ -134,7 +135,7 @@ module _ {T P S : Type 0} (r : Parts T P S) (law : LawfulParts r) where
   -- the tables are right for any page of a partition
   module _ (w : World T P S) (k : Consistent r w) (bytes fixes : List ℕ) (m : Mem r w bytes fixes) where
     segment_right : (p : ℕ) → p < w.config.pages → word w.storage (segment_at (p / 32)) ≡ Rattle.model.specs.Layout.segment_word w.config (p / 32)
-    segment_right p h = m.entries.segs (p / 32) (omega arith)
+    segment_right p h = m.entries.segment (p / 32) (omega arith)
 
     frame_right : (f : ℕ) → Pageable w.config f → frame_is w.config w.storage w.records f ≡ true
     frame_right f fp =

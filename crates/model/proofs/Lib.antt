@@ -11,6 +11,6 @@ pub mod Moved
 pub mod Beside
 pub mod Answered
 pub mod Start
-pub mod Runs
 pub mod Tested
+pub mod Runs
 pub mod Certainly

@@ -8,6 +8,7 @@ use Rattle.model.specs.Flat.{fixed_pages}
 use Rattle.model.specs.Law.{Fits, Keyed, Pageable, Slots, Table}
 use Rattle.model.specs.Layout.{bit15, entry_at, fixed_in, fixes_in, key_of, no_page, page_in, segment_at, segment_entries, segment_word, segments}
 use Rattle.model.specs.Steps.{change_off, change_on, put_out}
+use Rattle.model.specs.Tests.{Absent, Entries}
 use Rattle.model.specs.World.{Config}
 use Rattle.model.proofs.Find.{counted_same}
 use Rattle.model.proofs.Own.{fixes_kept, fixes_there, frame_listed, in_table, page_here, page_there, put_out_lem}
@@ -15,19 +16,6 @@ use Rattle.model.proofs.Place.{e_frame, e_long, e_other, e_same, e_segment, fram
 use Rattle.pages.specs.Store as stores
 use Rattle.storage.specs.Bytes.{half, page, put_half, word, zeros}
 use Rattle.storage.specs.Over.{laws}
-
--- No pageable frame has page p.
-abbrev pub Absent : Config → List FrameRecord → ℕ → Type 0
-Absent c rs p = (g : ℕ) → Pageable c g → page_in rs g ≡ p → ⊥
-
--- Every entry of both tables is what it should be, bit 15 aside.
-pub record Entries (c : Config) (rs : List FrameRecord) (s : List ℕ) : Type 0 where
-  pub long : length s ≡ 2048 * c.frames
-  pub segs : (g : ℕ) → g < segment_entries c → word s (segment_at g) ≡ segment_word c g
-  pub low : (p : ℕ) → p < c.supervisor → half s (entry_at p) / 2 ≡ 4 * p
-  pub inside : (f : ℕ) → Pageable c f → (page_in rs f ≡ no_page → ⊥) → half s (entry_at (page_in rs f)) / 2 ≡ 4 * f
-  pub outside : (p key : ℕ) → key_of c.partitions p ≡ Some key → Absent c rs p → half s (entry_at p) / 2 ≡ 2 + 8 * key
-  pub rest : (p : ℕ) → p < 32 * segments c → c.supervisor ≤ p → key_of c.partitions p ≡ None → half s (entry_at p) / 2 ≡ 16386
 
 -- What stands behind a page: zeros where it was never written out, else its slot.
 abbrev pub backing : {S : Type 0} → stores.Rules S → Config → List ℕ → S → ℕ → List ℕ
@@ -107,9 +95,9 @@ module _ {S : Type 0} (r : stores.Rules S) (law : stores.Lawful r) (c : Config) 
 pub entries_pages : (c : Config) (rs new : List FrameRecord) (s : List ℕ) → Entries c rs s → ((g : ℕ) → page_in new g ≡ page_in rs g) → Entries c new s
 entries_pages c rs new s k same = record {
   long = k.long;
-  segs = k.segs;
-  low = k.low;
-  rest = k.rest;
+  segment = k.segment;
+  supervisor = k.supervisor;
+  unused = k.unused;
   inside = λ f fp ne. ap (λ p. half s (entry_at p) / 2) (same f) ∙ k.inside f fp (λ z. ne (same f ∙ z));
   outside = λ p key e absent. k.outside p key e (λ g gp is. absent g gp (same g ∙ is));
 }
@@ -162,8 +150,8 @@ module _ {S : Type 0} (r : stores.Rules S) (law : stores.Lawful r) (c : Config) 
     pub vacated_entries : Entries c (set rs f gone) (put_half s (entry_at q) out)
     vacated_entries = record {
       long = e_long c fit s ents.long q out q_listed;
-      segs = λ g h. e_segment c fit s ents.long q out q_listed g h ∙ ents.segs g h;
-      low = λ p h. ap (λ n. n / 2) (e_other c fit s ents.long q out q_listed p (λ e. let a = q_in.0 in omega arith)) ∙ ents.low p h;
+      segment = λ g h. e_segment c fit s ents.long q out q_listed g h ∙ ents.segment g h;
+      supervisor = λ p h. ap (λ n. n / 2) (e_other c fit s ents.long q out q_listed p (λ e. let a = q_in.0 in omega arith)) ∙ ents.supervisor p h;
       inside = λ g gp gn.
           let gf = gone_page g gn in
           let same = page_there rs f gone g gf in
@@ -179,8 +167,8 @@ module _ {S : Type 0} (r : stores.Rules S) (law : stores.Lawful r) (c : Config) 
             ∙ (let v : out / 2 ≡ 2 + 8 * key = omega arith in v)
         | inr z ↦ ap (λ n. n / 2) (e_other c fit s ents.long q out q_listed p z) ∙ ents.outside p key e (gone_absent p z absent)
       ];
-      rest = λ p pt lo e.
-          ap (λ n. n / 2) (e_other c fit s ents.long q out q_listed p (λ z. cc key_of_lem.1)) ∙ ents.rest p pt lo e;
+      unused = λ p pt lo e.
+          ap (λ n. n / 2) (e_other c fit s ents.long q out q_listed p (λ z. cc key_of_lem.1)) ∙ ents.unused p pt lo e;
     }
 
     pub vacated_bit : bit15 (put_half s (entry_at q) out) q ≡ bit
@@ -243,11 +231,11 @@ module _ {S : Type 0} (r : stores.Rules S) (law : stores.Lawful r) (c : Config) 
       ] in
       record {
         long = e_long c fit s ents.long q off15 q_listed;
-        segs = λ g h. e_segment c fit s ents.long q off15 q_listed g h ∙ ents.segs g h;
-        low = λ p h. every p ∙ ents.low p h;
+        segment = λ g h. e_segment c fit s ents.long q off15 q_listed g h ∙ ents.segment g h;
+        supervisor = λ p h. every p ∙ ents.supervisor p h;
         inside = λ g gp gn. every (page_in rs g) ∙ ents.inside g gp gn;
         outside = λ p key e absent. every p ∙ ents.outside p key e absent;
-        rest = λ p pt lo e. every p ∙ ents.rest p pt lo e;
+        unused = λ p pt lo e. every p ∙ ents.unused p pt lo e;
       }
 
   module _ (ks : List ℕ) (kl : f < length ks) (st : S) (good : r.good st) (slots : Slots r c st) (bytes : List ℕ) (k : Content r c rs ks st s bytes) where

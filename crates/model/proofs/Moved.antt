@@ -7,9 +7,10 @@ use Rattle.model.specs.declared.shape.FrameRecord.{FrameRecord}
 use Rattle.model.specs.Flat.{fixed_pages}
 use Rattle.model.specs.Law.{Fits, Pageable, Table}
 use Rattle.model.specs.Layout.{bit15, entry_at, fixed_in, fixes_in, key_of, no_page, page_in, segments, vacant}
+use Rattle.model.specs.Tests.{Absent, Entries}
 use Rattle.model.specs.World.{Config}
 use Rattle.model.proofs.Find.{counted_same, counted_up}
-use Rattle.model.proofs.Memory.{Absent, Content, Counts, Entries, backing}
+use Rattle.model.proofs.Memory.{Content, Counts, backing}
 use Rattle.model.proofs.Own.{fixes_here, fixes_kept, fixes_there, frame_listed, get_or-set_alike, in_table, page_here, page_there, pages_kept, real_page}
 use Rattle.model.proofs.Place.{b_entry, b_long, b_other, b_same, b_segment, e_frame, f_long, f_other, f_same, listed}
 use Rattle.model.proofs.Ready.{after_entry, after_long, after_other, after_segment}
@@ -53,8 +54,8 @@ module _ {S : Type 0} (r : stores.Rules S) (c : Config) (fit : Fits c) (rs : Lis
   pub connected_entries : Entries c (set rs f come) s2
   connected_entries = record {
     long = after_long c fit s ents.long f p fp p_in.1 b bl;
-    segs = λ g h. after_segment c fit s ents.long f p fp p_in.1 b bl g h ∙ ents.segs g h;
-    low = λ q h. ap (λ n. n / 2) (after_other c fit s ents.long f p fp p_in.1 b bl q (let a = fit.more in omega arith) (λ e. let a = p_in.0 in omega arith)) ∙ ents.low q h;
+    segment = λ g h. after_segment c fit s ents.long f p fp p_in.1 b bl g h ∙ ents.segment g h;
+    supervisor = λ q h. ap (λ n. n / 2) (after_other c fit s ents.long f p fp p_in.1 b bl q (let a = fit.more in omega arith) (λ e. let a = p_in.0 in omega arith)) ∙ ents.supervisor q h;
     inside = λ g gp gn. elim (cases_eq g f) [
       | inl e ↦
           ap (λ x. half s2 (entry_at (page_in (set rs f come) x)) / 2) e ∙ ap (λ x. half s2 (entry_at x) / 2) here
@@ -68,8 +69,8 @@ module _ {S : Type 0} (r : stores.Rules S) (c : Config) (fit : Fits c) (rs : Lis
         let t = absent_then q a in
         let qv = (fit.keys q y e).1 in
         ap (λ n. n / 2) (after_other c fit s ents.long f p fp p_in.1 b bl q (listed c fit q qv) t.0) ∙ ents.outside q y e (t.1 (real_page c fit q y e));
-    rest = λ q qt lo e.
-        ap (λ n. n / 2) (after_other c fit s ents.long f p fp p_in.1 b bl q qt (λ z. cc)) ∙ ents.rest q qt lo e;
+    unused = λ q qt lo e.
+        ap (λ n. n / 2) (after_other c fit s ents.long f p fp p_in.1 b bl q qt (λ z. cc)) ∙ ents.unused q qt lo e;
   }
 
   -- the frames after
@@ -137,11 +138,11 @@ module _ {S : Type 0} (r : stores.Rules S) (c : Config) (fit : Fits c) (rs : Lis
   pub stored_entries : Entries c rs s1
   stored_entries = record {
     long = b_long c fit s ents.long f i v fp il;
-    segs = λ g h. b_segment c fit s ents.long f i v fp il g h ∙ ents.segs g h;
-    low = λ q h. ap (λ n. n / 2) (b_entry c fit s ents.long f i v fp il q (let a = fit.more in omega arith)) ∙ ents.low q h;
+    segment = λ g h. b_segment c fit s ents.long f i v fp il g h ∙ ents.segment g h;
+    supervisor = λ q h. ap (λ n. n / 2) (b_entry c fit s ents.long f i v fp il q (let a = fit.more in omega arith)) ∙ ents.supervisor q h;
     inside = λ g gp gn. ap (λ n. n / 2) (b_entry c fit s ents.long f i v fp il (page_in rs g) (frame_listed c fit rs tab g gp gn)) ∙ ents.inside g gp gn;
     outside = λ q y e a. ap (λ n. n / 2) (b_entry c fit s ents.long f i v fp il q (listed c fit q (fit.keys q y e).1)) ∙ ents.outside q y e a;
-    rest = λ q qt lo e. ap (λ n. n / 2) (b_entry c fit s ents.long f i v fp il q qt) ∙ ents.rest q qt lo e;
+    unused = λ q qt lo e. ap (λ n. n / 2) (b_entry c fit s ents.long f i v fp il q qt) ∙ ents.unused q qt lo e;
   }
 
   -- a byte of the flat machine's page

@@ -20,39 +20,23 @@ use Rattle.model.specs.Law.{After, Consistent, Fits, LawOf, Pageable, Placed, Sa
 use Rattle.model.specs.Layout.{controls_of, counted, entries_are, entry_at, entry_for, entry_should, fixed_in, fixes_in, frame_of, frames_are, key_of, no_page, out_entry, page_in, segment_entries, segments, segments_are, vacant}
 use Rattle.model.specs.Refusals.{and_then, decode_fix, decode_free, decode_load, decode_purge, decode_settle, decode_store, fixes_of, unless, where_is}
 use Rattle.model.specs.Steps.{brought, brought_frame, byte_answer, change_on, done_answer, fix, fixed_once, fixing, free, freed_in, freeing, load, loaded_in, loading, purge, purging, settle, store, stored_in, storing, sweeping, swept, worked}
+use Rattle.model.specs.Tests.{Entries}
 use Rattle.model.specs.World.{Config, GoodParts, LawfulParts, Parts, World}
 use Rattle.model.proofs.Answered.{Side, agree_cases, asked_is, byte_is, counts_agree, fix_agrees, free_agrees, load_agrees, placed, reached_mem, stands, store_agrees}
 use Rattle.model.proofs.Beside.{Mem, frames_right, swept_mem}
 use Rattle.model.proofs.Decoded.{fix_ok, free_ok, load_ok, store_ok}
-use Rattle.model.proofs.Find.{all_entries, all_segments, frame_none, frame_some}
+use Rattle.model.proofs.Fault.{slot_of}
+use Rattle.model.proofs.Find.{frame_none, frame_some}
 use Rattle.model.proofs.Kept.{call_own, fixed_frame, loaded_own, ready_page, same_pages, steadies, stored_own}
-use Rattle.model.proofs.Memory.{Content, Counts, Entries, backing, bit_is, change_on_lem, changed_on, content_keys, content_pages, entries_pages}
+use Rattle.model.proofs.Memory.{Content, Counts, backing, bit_is, change_on_lem, changed_on, content_keys, content_pages, entries_pages}
 use Rattle.model.proofs.Moved.{counted_to, stored_content, stored_entries, total_falls, total_rises, total_stays}
 use Rattle.model.proofs.Own.{agrees_frame, get_or-set_alike, in_keys, real_page}
 use Rattle.model.proofs.Ready.{ready}
 use Rattle.model.proofs.Start.{first_entry_lem, first_holding, first_segment, first_table, fits_from, get_or-replicate_same, no_fault, no_fixes, no_page_lem, tables_long}
+use Rattle.model.proofs.Tested.{entries_right, purge_test_of}
+use Rattle.pages.specs.Store as stores
 use Rattle.storage.specs.Bytes.{half, page, zeros}
 use Rattle.storage.specs.Over.{laws}
-
--- Every entry is what a purge tests it to be.
-module _ (c : Config) (fit : Fits c) (rs : List FrameRecord) (s : List ℕ) (ents : Entries c rs s) where
-  by_frame : (p key : ℕ) → key_of c.partitions p ≡ Some key → (o : Option ℕ) → frame_of c s rs p ≡ o → half s (entry_at p) / 2 ≡ entry_for key o / 2
-  by_frame p key part (Some f) e =
-      let h = frame_some c s rs fit.some p f e in
-      let i = ents.inside f h.0 (λ z. real_page c fit p key part (sym h.1 ∙ z)) in
-      let j : half s (entry_at p) / 2 ≡ 4 * f = ap (λ x. half s (entry_at x) / 2) (sym h.1) ∙ i in
-      omega arith
-  by_frame p key part None e = let o = ents.outside p key part (frame_none c s rs fit.some p e) in omega arith
-
-  by_key : (p : ℕ) → p < 32 * segments c → c.supervisor ≤ p → (o : Option ℕ) → key_of c.partitions p ≡ o → half s (entry_at p) / 2 ≡ out_entry c s rs p o / 2
-  by_key p h l None e = ents.rest p h l e
-  by_key p h l (Some key) e = by_frame p key e (frame_of c s rs p) refl
-
-  entries_right : (p : ℕ) → p < 32 * segments c → half s (entry_at p) / 2 ≡ entry_should c s rs p / 2
-  entries_right p h =
-      cond_both (ltb p c.supervisor) (8 * p + 1) (out_entry c s rs p (key_of c.partitions p)) (λ e. half s (entry_at p) / 2 ≡ e / 2)
-      (λ t. let z = ents.low p (ltb-true _ _ t) in omega arith)
-      (λ t. by_key p h (ltb-false _ _ t) (key_of c.partitions p) refl)
 
 module _ {T P S : Type 0} (r : Parts T P S) (law : LawfulParts r) where
   -- an outcome beside the flat machine's
@@ -194,12 +178,7 @@ module _ {T P S : Type 0} (r : Parts T P S) (law : LawfulParts r) where
         )
 
     purge_passes : decode_purge w ≡ Ok tt
-    unfolding decode_purge
-    purge_passes =
-        ap (λ b. and_then (unless b WrongLength) (λ _. unless (segments_are w.config w.storage 0 (segment_entries w.config) && entries_are w.config w.storage w.records 0 (32 * segments w.config)) Tables)) (eq-eqb _ _ m.entries.long)
-        ∙ ap (λ b. unless b Tables) (and_from _ _
-        (all_segments w.config w.storage 0 (segment_entries w.config) (λ g a b. m.entries.segs g (omega arith)))
-        (all_entries w.config w.storage w.records 0 (32 * segments w.config) (λ p a b. eq-eqb _ _ (entries_right w.config k.fits w.records w.storage m.entries p (omega arith)))))
+    purge_passes = (purge_test_of r w k).right m.entries
 
     purge_kept : KeptBy Purge (done_answer (purging r w (decode_purge w)).0, (purging r w (decode_purge w)).1) (Ok Done, here)
     purge_kept =
@@ -223,11 +202,11 @@ module _ {T P S : Type 0} (r : Parts T P S) (law : LawfulParts r) where
     behind_all next same mn kn clean p key part None e = mn.content.outside p key part (frame_none next.config next.storage next.records kn.fits.some p e)
 
     saved : (next : World T P S) (config : Config) (p : ℕ) → backing r.store next.config next.storage next.store p ≡ page bytes (2048 * p)
-        → Saved r next (record { config = config; bytes = bytes; fixes = fixes }) p
-    saved next config p e = elim (bit_is (half next.storage (entry_at p))) [
+        → stores.Usable r.store next.store (p - next.config.supervisor) → Saved r next (record { config = config; bytes = bytes; fixes = fixes }) p
+    saved next config p e use = (use, elim (bit_is (half next.storage (entry_at p))) [
       | inl z ↦ inl (z, sym (ap (λ n. cond (eqb n 1) zeros (r.store.slot next.store (p - next.config.supervisor))) z) ∙ e)
       | inr z ↦ inr (z, sym e ∙ ap (λ n. cond (eqb n 1) zeros (r.store.slot next.store (p - next.config.supervisor))) z)
-    ]
+    ])
 
     settle_kept : KeptBy Settle (done_answer (sweeping r w (decode_settle w)).0, (sweeping r w (decode_settle w)).1) (Ok Done, here)
     settle_kept =
@@ -243,7 +222,8 @@ module _ {T P S : Type 0} (r : Parts T P S) (law : LawfulParts r) where
               let gp2 : Pageable w.config g = subst (λ (c : Config). Pageable c g) s.same_config gp in
               let hi = gp2.1 in
               s.clean g gp2.0 (omega arith) (λ z. ne (ap (λ rs. page_in rs g) s.same_records ∙ z)))
-              p key part (where_is next p) refl)),
+              p key part (where_is next p) refl)
+              (kn.slots (p - next.config.supervisor) (slot_of r law next.config kn.fits p key part))),
           record { mem = s.mem; same = sym s.same_config },
         )
       where
@@ -307,11 +287,11 @@ module _ {T P S : Type 0} (r : Parts T P S) (law : LawfulParts r) where
     first_entries : Entries c rows s0
     first_entries = record {
       long = sl;
-      segs = first_segment c fit w.storage long;
-      low = λ p h. ap (λ n. n / 2) (low_entry p h) ∙ (let z : (8 * p + 1) / 2 ≡ 4 * p = omega arith in z);
+      segment = first_segment c fit w.storage long;
+      supervisor = λ p h. ap (λ n. n / 2) (low_entry p h) ∙ (let z : (8 * p + 1) / 2 ≡ 4 * p = omega arith in z);
       inside = λ f fp ne. absurd (ne (no_page_lem c fit f fp.0));
       outside = λ p key e a. ap (λ n. n / 2) (part_entry p key e) ∙ (let z : (5 + 16 * key) / 2 ≡ 2 + 8 * key = omega arith in z);
-      rest = λ p pt h e. ap (λ n. n / 2) (high_entry p None pt h e);
+      unused = λ p pt h e. ap (λ n. n / 2) (high_entry p None pt h e);
     }
 
     first_content : Content r.store c rows (replicate 256 0) w.store s0 (replicate (2048 * c.pages) 0)

@@ -64,11 +64,12 @@ module _ {T P S : Type 0} (r : Parts T P S) where
     pub walked : walk w.storage (r.translator.controls w.translator) a ≡ Ok real
     pub byte : get_or w.storage real 0 ≡ slice_index m.bytes a
 
-  -- the flat bytes of a page stand in its slot, or are all zero where its entry says never written out
+  -- the slot of a page can be used; its flat bytes stand there, or are all zero where its entry says never written out
   abbrev pub Saved : World T P S → Flat → ℕ → Type 0
   Saved w m p =
-      ((bit15 w.storage p ≡ 0) × (r.store.slot w.store (p - w.config.supervisor) ≡ page m.bytes (2048 * p)))
-      ⊎ ((bit15 w.storage p ≡ 1) × (page m.bytes (2048 * p) ≡ zeros))
+      stores.Usable r.store w.store (p - w.config.supervisor)
+      × (((bit15 w.storage p ≡ 0) × (r.store.slot w.store (p - w.config.supervisor) ≡ page m.bytes (2048 * p)))
+      ⊎ ((bit15 w.storage p ≡ 1) × (page m.bytes (2048 * p) ≡ zeros)))
 
   -- what holds after a call that is answered
   abbrev pub After : Call → World T P S → Flat → Type 0

@@ -5,4 +5,5 @@ pub mod Steps
 pub mod Ipl
 pub mod Flat
 pub mod Law
+pub mod Tests
 pub mod Certain
