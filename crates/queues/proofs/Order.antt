@@ -6,7 +6,7 @@ use Rattle.frames.specs.Held.{times_in, without}
 use Rattle.frames.specs.Keys.{referred, changed}
 use Rattle.frames.specs.Policy.{Took}
 use Rattle.frames.proofs.Held.{without_first, without_later, without_append}
-use Rattle.frames.proofs.Keys.{kept_changed}
+use Rattle.frames.proofs.KeysKept.{kept_changed}
 use Rattle.queues.specs.declared.queue.Queue.{Queue}
 use Rattle.queues.specs.declared.queue.Queue.TheVariants.{Q00, Q01, Q10, Q11, Hq}
 use Rattle.queues.specs.Five.{Five, times_held, size, dropped, on, turned, seen_q00, seen_q01, step, step_at, steps, taken, Good}

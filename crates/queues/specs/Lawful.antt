@@ -6,7 +6,7 @@ use Rattle.frames.specs.Held.{times_in}
 use Rattle.frames.specs.Keys.{referred, changed}
 use Rattle.frames.specs.Policy.{Lawful, Picks, KeysKept, Took}
 use Rattle.frames.proofs.Held.{share, share_same, share_other, times_append, without_same, without_other}
-use Rattle.frames.proofs.Keys.{kept_one, kept_all, kept_then}
+use Rattle.frames.proofs.KeysKept.{kept_one, kept_all, kept_then}
 use Rattle.queues.specs.Five.{Five, times_held, size, dropped, on, queue_for, free_in, seen_q00, seen_q01, step, step_at, steps, taken, Good, five_rules}
 use Rattle.queues.specs.declared.queue.Queue.{Queue}
 use Rattle.queues.specs.declared.queue.Queue.TheVariants.{Q00, Q01, Q10, Q11, Hq}

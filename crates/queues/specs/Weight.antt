@@ -6,7 +6,7 @@ use Rattle.std.proofs.lemmas.Bool.{cases_eq, cases_lt, cases_Bool, cond-true, co
 use Rattle.frames.specs.Held.{without}
 use Rattle.frames.specs.Keys.{referred, changed, reference_off}
 use Rattle.frames.proofs.Held.{without_first, without_later}
-use Rattle.frames.proofs.Keys.{off_referred}
+use Rattle.frames.proofs.KeysKept.{off_referred}
 use Rattle.queues.specs.Five.{Five, empty, size, turned, turned_off, seen_q00, seen_q01, step, step_at, first_of, steps}
 
 -- what a frame weighs more where its reference bit is on
