@@ -203,7 +203,7 @@ module _ {T P S : Type 0} (r : Parts T P S) (law : LawfulParts r) where
 
     saved : (next : World T P S) (config : Config) (p : ℕ) → backing r.store next.config next.storage next.store p ≡ page bytes (2048 * p)
         → stores.Usable r.store next.store (p - next.config.supervisor) → Saved r next (record { config = config; bytes = bytes; fixes = fixes }) p
-    saved next config p e use = (use, elim (bit_is (half next.storage (entry_at p))) [
+    saved next config p e usable = (usable, elim (bit_is (half next.storage (entry_at p))) [
       | inl z ↦ inl (z, sym (ap (λ n. cond (eqb n 1) zeros (r.store.slot next.store (p - next.config.supervisor))) z) ∙ e)
       | inr z ↦ inr (z, sym e ∙ ap (λ n. cond (eqb n 1) zeros (r.store.slot next.store (p - next.config.supervisor))) z)
     ])
@@ -338,7 +338,7 @@ module _ {T P S : Type 0} (r : Parts T P S) (law : LawfulParts r) where
           holding = h.1;
           paired = record {
             words = law.translator.load_controls w.translator s0 (controls_of c) good.translator;
-            each = λ p start v. agrees_frame c fit rows (first_table c fit) s0 sl (first_segment c fit w.storage long) (entries_right c fit rows s0 first_entries) p start
+            each = λ p start v. agrees_frame c fit rows (first_table c fit) s0 sl (first_segment c fit w.storage long) (entries_right c fit s0 rows first_entries) p start
                 (law.translator.load_agrees w.translator s0 (controls_of c) p start good.translator v);
           };
           slots = slots;

@@ -1,9 +1,12 @@
-//! The four steps of a page fault.
+//! The four steps of a page fault: taken, emptied, filled, connected. Each takes the token of the step before and gives the
+//! next one.
 ghost use Rattle.std.specs.Prelude.{◌≡◌, ℕ, ◌-◌, ◌*◌, true, List, slice_index};
 ghost use Rattle.frames.specs.Keys.{changed};
 ghost use Rattle.model.specs.Steps.{chosen, connected, emptied as emptied_by, emptying, fill_frame, filled as filled_by, put_out, read_in, taken as taken_by, taken_frame};
 ghost use Rattle.paging.specs.Seen.{access_for, rules_of, seen, with_store};
 ghost use Rattle.storage.specs.Bytes.{frame as frame_bytes};
+
+mod token;
 
 use crate::Own;
 use frames::{Policy, is_changed};
@@ -11,7 +14,7 @@ use layout::entries::{never_written, put_entry};
 use pages::store::PageStore;
 use storage::{PAGE, clear_page, holds, page};
 use table::NO_PAGE;
-use taken::{Emptied, Filled, Taken};
+use token::{Emptied, Filled, Taken};
 use translation::Translator;
 
 // The frame that the policy hands over; the first pageable frame stands in for none, and for one that is not pageable.

@@ -1,15 +1,13 @@
-//! A frame taken for a page, as a thing in hand.
+//! The token of a frame that is taken for a page, and which step of the page fault it has passed.
 //!
-//! It is taken, emptied, filled and connected, in this order: each step takes the value of the step before and gives the
-//! next one, so that a frame which is not filled cannot be connected. None of the three can be let go; the only way to end
-//! is to connect the frame.
-#![tactic(auto)]
-
+//! `take` makes a `Taken`, `empty` turns it into an `Emptied`, `fill` into a `Filled`, and `connect` ends it. Only these
+//! steps can make, turn or end a token: what does so is visible in their module alone. A token can be neither copied nor let
+//! go, so that a frame which is taken is emptied, filled and connected, in this order.
 ghost use Rattle.std.specs.Prelude.{◌≡◌};
 
 use std::marker::PhantomData;
 
-/// The steps, as types: which of them a taken frame is at.
+/// The steps that a taken frame has passed, as types.
 pub mod step {
     /// Taken, and not emptied yet.
     pub struct Taken;
@@ -21,8 +19,8 @@ pub mod step {
     pub struct Filled;
 }
 
-/// A frame, the page that it was taken for, and the step that it is at.
-// It has no model: by the rules it is plain numbers, and a clause says of each what it is.
+/// The number of a taken frame, and that of the page for which it was taken, at a step of the page fault.
+// It has no model: it is plain numbers, and a clause says of each what it is.
 pub struct TakenFrame<Step> {
     frame: u8,
     page: u16,
@@ -32,28 +30,28 @@ pub struct TakenFrame<Step> {
 /// A frame that was taken for a page. It may have another page still.
 pub type Taken = TakenFrame<step::Taken>;
 
-/// A frame that has no page any more.
+/// A taken frame that has no page any more.
 pub type Emptied = TakenFrame<step::Emptied>;
 
-/// A frame that holds the bytes of the page it was taken for.
+/// A taken frame that holds the bytes of the page for which it was taken.
 pub type Filled = TakenFrame<step::Filled>;
 
 impl<Step> TakenFrame<Step> {
-    /// The frame in hand.
+    /// The number of the taken frame, 0 to 255.
     pub fn frame(&self) -> u8
         ensures { result ≡ self.now.frame }
     {
         self.frame
     }
 
-    /// The page that it was taken for.
+    /// The page for which it was taken.
     pub fn page(&self) -> u16
         ensures { result ≡ self.now.page }
     {
         self.page
     }
 
-    // The same frame for the same page, at another step.
+    // The same frame for the same page, a step further.
     fn at<Next>(self) -> TakenFrame<Next>
         ensures frame { result.frame ≡ self.frame }
         ensures page { result.page ≡ self.page }
@@ -72,8 +70,8 @@ impl<Step> TakenFrame<Step> {
 }
 
 impl TakenFrame<step::Taken> {
-    /// A frame is taken for a page.
-    pub fn for_page(frame: u8, page: u16) -> Taken
+    /// The policy has handed over this frame for this page.
+    pub(super) fn for_page(frame: u8, page: u16) -> Taken
         ensures frame { result.frame ≡ frame }
         ensures page { result.page ≡ page }
     {
@@ -84,8 +82,8 @@ impl TakenFrame<step::Taken> {
         }
     }
 
-    /// The frame was emptied.
-    pub fn emptied(self) -> Emptied
+    /// The page that the frame had is put out.
+    pub(super) fn emptied(self) -> Emptied
         ensures frame { result.frame ≡ self.frame }
         ensures page { result.page ≡ self.page }
     {
@@ -94,8 +92,8 @@ impl TakenFrame<step::Taken> {
 }
 
 impl TakenFrame<step::Emptied> {
-    /// The frame was filled.
-    pub fn filled(self) -> Filled
+    /// The bytes of the page stand in the frame.
+    pub(super) fn filled(self) -> Filled
         ensures frame { result.frame ≡ self.frame }
         ensures page { result.page ≡ self.page }
     {
@@ -104,8 +102,8 @@ impl TakenFrame<step::Emptied> {
 }
 
 impl TakenFrame<step::Filled> {
-    /// The frame was connected, and is in hand no more: which frame it was.
-    pub fn connected(self) -> u8
+    /// The frame is connected, and the token ends: the number of the frame.
+    pub(super) fn connected(self) -> u8
         ensures { result ≡ self.frame }
     {
         let TakenFrame {
