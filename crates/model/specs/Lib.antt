@@ -1,4 +1,4 @@
--- Statements: World, Layout, Refusals, Steps, Ipl, Flat, Law and Certain.
+-- Statements: World, Layout, Refusals, Steps, Ipl, Flat, Law, Tests and Certain.
 -- Proofs of laws: none.
 pub mod World
 pub mod Layout
