@@ -1,3 +1,5 @@
+-- Statements: Worked, Cases, LosingFaults and Governed.
+-- Proofs of laws: none.
 pub mod Worked
 pub mod Cases
 pub mod LosingFaults

@@ -1,3 +1,5 @@
+-- Statements: Held, Keys, Policy and Runs.
+-- Proofs of laws: none.
 pub mod Held
 pub mod Keys
 pub mod Policy

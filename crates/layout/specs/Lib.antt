@@ -1,1 +1,3 @@
+-- Statements: Config.
+-- Proofs of laws: none.
 pub mod Config

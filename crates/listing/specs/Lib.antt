@@ -1,3 +1,5 @@
+-- Statements: Digests, Hexadecimal, Memory, Entries, Lines, Records and Slots.
+-- Proofs of laws: none.
 pub mod Digests
 pub mod Hexadecimal
 pub mod Memory

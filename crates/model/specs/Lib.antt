@@ -1,3 +1,5 @@
+-- Statements: World, Layout, Refusals, Steps, Ipl, Flat, Law, Tests and Certain.
+-- Proofs of laws: none.
 pub mod World
 pub mod Layout
 pub mod Refusals

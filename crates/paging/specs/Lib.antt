@@ -1,1 +1,3 @@
+-- Statements: Seen.
+-- Proofs of laws: none.
 pub mod Seen

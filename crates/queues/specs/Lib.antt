@@ -1,11 +1,13 @@
+-- Statements: Links, Five, Names and Laws.
+-- Proofs of laws: Weight and Lawful, for a ghost member; the five behind them, on the links, serve proofs/ alone.
 pub mod Links
 pub mod Five
 pub mod Names
 pub mod Laws
-pub mod Lawful
 pub mod Weight
-pub mod Played
-pub mod Operations
+pub mod Lawful
 pub mod Rings
 pub mod Linking
 pub mod Unlinking
+pub mod Operations
+pub mod Played

@@ -1,1 +1,3 @@
+-- Statements: Reference.
+-- Proofs of laws: none.
 pub mod Reference

@@ -1,2 +1,4 @@
+-- Statements: Whole and Disturbed.
+-- Proofs of laws: none.
 pub mod Whole
 pub mod Disturbed

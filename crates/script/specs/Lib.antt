@@ -1,3 +1,5 @@
+-- Statements: Numbers, Words, Said, Starts, Wirings, Verbs, Commands, Faults and Lines.
+-- Proofs of laws: none.
 pub mod Numbers
 pub mod Words
 pub mod Said

@@ -1,1 +1,3 @@
+-- Statements: Bare.
+-- Proofs of laws: none.
 pub mod Bare
