@@ -203,10 +203,13 @@ module _ {T P S : Type 0} (r : Parts T P S) (law : LawfulParts r) where
 
     saved : (next : World T P S) (config : Config) (p : ℕ) → backing r.store next.config next.storage next.store p ≡ page bytes (2048 * p)
         → stores.Usable r.store next.store (p - next.config.supervisor) → Saved r next (record { config = config; bytes = bytes; fixes = fixes }) p
-    saved next config p e usable = (usable, elim (bit_is (half next.storage (entry_at p))) [
-      | inl z ↦ inl (z, sym (ap (λ n. cond (eqb n 1) zeros (r.store.slot next.store (p - next.config.supervisor))) z) ∙ e)
-      | inr z ↦ inr (z, sym e ∙ ap (λ n. cond (eqb n 1) zeros (r.store.slot next.store (p - next.config.supervisor))) z)
-    ])
+    saved next config p e usable = (
+      usable,
+      elim (bit_is (half next.storage (entry_at p))) [
+        | inl z ↦ inl (z, sym (ap (λ n. cond (eqb n 1) zeros (r.store.slot next.store (p - next.config.supervisor))) z) ∙ e)
+        | inr z ↦ inr (z, sym e ∙ ap (λ n. cond (eqb n 1) zeros (r.store.slot next.store (p - next.config.supervisor))) z)
+      ],
+    )
 
     settle_kept : KeptBy Settle (done_answer (sweeping r w (decode_settle w)).0, (sweeping r w (decode_settle w)).1) (Ok Done, here)
     settle_kept =
