@@ -57,6 +57,11 @@ without_none f (x ∷ xs) z = elim (cases_eq x f) [
   | inr ne ↦ (let s = share_other x f ne in without_later f x xs ne ∙ ap (λ l. x ∷ l) (without_none f xs (omega arith)))
 ]
 
+-- what is there at most once, and not once, is not there
+pub times_none : (n : ℕ) → n ≤ 1 → eqb n 1 ≡ false → n ≡ 0
+times_none zero h e = refl
+times_none (suc n) h e = absurd (true≢false (sym (eq-eqb (suc n) 1 (omega arith)) ∙ e))
+
 -- what stands at a place stands in the list
 pub times_at : (xs : List ℕ) (i : ℕ) → i < length xs → 1 ≤ times_in (get_or xs i 0) xs
 times_at [] i h = absurd (omega arith)

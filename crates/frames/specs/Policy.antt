@@ -1,5 +1,5 @@
 -- What a frame policy means: how often it holds each frame, and what each call leaves.
-use Rattle.std.specs.Prelude.{◌≡◌, ℕ, ◌≤◌, Bool, cond, ◌&&◌, ◌⊎◌, List, length, Some, None, Option, ◌==◌, nat_lt, slice_index}
+use Rattle.std.specs.Prelude.{◌≡◌, ℕ, ◌≤◌, Bool, false, cond, ◌&&◌, ◌⊎◌, List, length, Some, None, Option, ◌==◌, nat_lt, slice_index}
 use Rattle.frames.specs.Keys.{reference_off}
 
 -- What Take answers and leaves: a frame or none, the keys, the policy.
@@ -46,11 +46,15 @@ pub record Lawful {M : Type 0} (r : Rules M) : Type 0 where
   pub small : (m : M) (f : ℕ) → r.good m → 256 ≤ f → r.times m f ≡ 0
   pub enter_good : (m : M) (f : ℕ) → r.good m → r.good (r.enter m f)
   pub enter_times : (m : M) (f g : ℕ) → r.good m → r.times (r.enter m f) g ≡ cond (g == f && free r m f) 1 (r.times m g)
+  -- an Enter, Return or Leave that answers no leaves the policy as it was, its order too
+  pub enter_no : (m : M) (f : ℕ) → r.good m → free r m f ≡ false → r.enter m f ≡ m
   pub return_good : (m : M) (f : ℕ) (ref chg : Bool) → r.good m → r.good (r.return_frame m f ref chg)
   pub return_times : (m : M) (f g : ℕ) (ref chg : Bool) → r.good m
       → r.times (r.return_frame m f ref chg) g ≡ cond (g == f && free r m f) 1 (r.times m g)
+  pub return_no : (m : M) (f : ℕ) (ref chg : Bool) → r.good m → free r m f ≡ false → r.return_frame m f ref chg ≡ m
   pub leave_good : (m : M) (f : ℕ) → r.good m → r.good (r.leave m f)
   pub leave_times : (m : M) (f g : ℕ) → r.good m → r.times (r.leave m f) g ≡ cond (g == f) 0 (r.times m g)
+  pub leave_no : (m : M) (f : ℕ) → r.good m → holds r m f ≡ false → r.leave m f ≡ m
   pub touch_good : (m : M) (f : ℕ) → r.good m → r.good (r.touch m f)
   pub touch_times : (m : M) (f g : ℕ) → r.good m → r.times (r.touch m f) g ≡ r.times m g
   pub clear_good : (m : M) → r.good m → r.good (r.clear m)

@@ -4,7 +4,7 @@ use Rattle.std.proofs.Common.{sym, ap, ◌∙◌, inl, inr, arith}
 use Rattle.std.proofs.lemmas.Bool.{cases_eq, cases_Bool, eq-eqb, ne_eqb, eqb-true, ltb-true, and_parts, cond-true, cond-false}
 use Rattle.frames.specs.Held.{times_in, without, Once}
 use Rattle.frames.specs.Policy.{Lawful, Picks, KeysKept, free}
-use Rattle.frames.proofs.Held.{share, share_same, share_other, times_append, without_same, without_other}
+use Rattle.frames.proofs.Held.{share, share_same, share_other, times_append, without_same, without_other, without_none, times_none}
 use Rattle.lru_list.specs.Rules.{entered, touched, taken, lru_rules}
 
 -- one more frame at the end
@@ -96,10 +96,13 @@ lru_lawful = record {
   small = λ m f o. (o f).1;
   enter_good = λ m f o. once_entered m f o;
   enter_times = λ m f g o. enter_times m f g;
+  enter_no = λ m f o e. cond-false (free lru_rules m f) (m ++ (f ∷ [])) m e;
   return_good = λ m f ref chg o. once_entered m f o;
   return_times = λ m f g ref chg o. enter_times m f g;
+  return_no = λ m f ref chg o e. cond-false (free lru_rules m f) (m ++ (f ∷ [])) m e;
   leave_good = λ m f o. once_without m f o;
   leave_times = λ m f g o. leave_times m f g;
+  leave_no = λ m f o e. without_none f m (times_none (times_in f m) (o f).0 e);
   touch_good = λ m f o. once_touched m f o;
   touch_times = λ m f g o. touch_times m f g;
   clear_good = λ m o g. (omega arith, λ big. refl);

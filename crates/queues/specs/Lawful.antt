@@ -5,11 +5,12 @@ use Rattle.std.proofs.lemmas.Bool.{cases_eq, cases_lt, cases_Bool, eq-eqb, ne_eq
 use Rattle.frames.specs.Held.{times_in}
 use Rattle.frames.specs.Keys.{referred, changed}
 use Rattle.frames.specs.Policy.{Lawful, Picks, KeysKept, Took}
-use Rattle.frames.proofs.Held.{share, share_same, share_other, times_append, without_same, without_other}
+use Rattle.frames.proofs.Held.{share, share_same, share_other, times_append, without_same, without_other, times_none}
 use Rattle.frames.proofs.KeysKept.{kept_one, kept_all, kept_then}
 use Rattle.queues.specs.Five.{Five, times_held, size, dropped, on, queue_for, free_in, seen_q00, seen_q01, step, step_at, steps, taken, Good, five_rules}
 use Rattle.queues.specs.declared.queue.Queue.{Queue}
 use Rattle.queues.specs.declared.queue.Queue.TheVariants.{Q00, Q01, Q10, Q11, Hq}
+use Rattle.queues.specs.Operations.{dropped_none}
 use Rattle.queues.specs.Weight.{weight, weight_six, size_weight, step_less, is_empty, step_first, step_on, cases_step}
 
 -- one more frame at a tail
@@ -20,7 +21,7 @@ on_times Q10 m f g = omega (arith, times_append g m.q10 (f ∷ []))
 on_times Q11 m f g = omega (arith, times_append g m.q11 (f ∷ []))
 on_times Hq m f g = omega (arith, times_append g m.hq (f ∷ []))
 
--- a frame that is put at a tail if it is free
+-- a frame that is put into other queues if it is free, where it stands once more there and nothing else is altered
 module _ (m x : Five) (f : ℕ) (more : (g : ℕ) → times_held x g ≡ times_held m g + share f g) where
   abbrev put : Five
   put = cond (free_in m f) x m
@@ -51,6 +52,13 @@ module _ (m x : Five) (f : ℕ) (more : (g : ℕ) → times_held x g ≡ times_h
     | inr n ↦ (let t : times_held put g ≡ times_held m g = put_times g ∙ cond-false (g == f && free_in m f) 1 (times_held m g) n in
         (omega (arith, (o g).0), λ big. t ∙ (o g).1 big))
   ]
+
+-- a frame that is put at the tail of a queue if it is free
+pub entered_times : (q : Queue) (m : Five) (f g : ℕ) → times_held (cond (free_in m f) (on q m f) m) g ≡ cond (g == f && free_in m f) 1 (times_held m g)
+entered_times q m f g = put_times m (on q m f) f (on_times q m f) g
+
+pub entered_good : (q : Queue) (m : Five) (f : ℕ) → Good m → Good (cond (free_in m f) (on q m f) m)
+entered_good q m f good = put_good m (on q m f) f (on_times q m f) good
 
 -- a frame that is dropped
 pub dropped_same : (m : Five) (f : ℕ) → times_held (dropped m f) f ≡ 0
@@ -188,15 +196,18 @@ pub five_lawful : Lawful five_rules
 five_lawful = record {
   once = λ m f o. (o f).0;
   small = λ m f o. (o f).1;
-  enter_good = λ m f o. put_good m (on Hq m f) f (on_times Hq m f) o;
-  enter_times = λ m f g o. put_times m (on Hq m f) f (on_times Hq m f) g;
-  return_good = λ m f ref chg o. put_good m (on (queue_for ref chg) m f) f (on_times (queue_for ref chg) m f) o;
-  return_times = λ m f g ref chg o. put_times m (on (queue_for ref chg) m f) f (on_times (queue_for ref chg) m f) g;
+  enter_good = λ m f o. entered_good Hq m f o;
+  enter_times = λ m f g o. entered_times Hq m f g;
+  enter_no = λ m f o e. cond-false (free_in m f) (on Hq m f) m e;
+  return_good = λ m f ref chg o. entered_good (queue_for ref chg) m f o;
+  return_times = λ m f g ref chg o. entered_times (queue_for ref chg) m f g;
+  return_no = λ m f ref chg o e. cond-false (free_in m f) (on (queue_for ref chg) m f) m e;
   leave_good = λ m f o g. elim (cases_eq g f) [
     | inl e ↦ (let t : times_held (dropped m f) g ≡ 0 = ap (times_held (dropped m f)) e ∙ dropped_same m f in (omega arith, λ big. t))
     | inr ne ↦ (let t = dropped_other m f g ne in (omega (arith, (o g).0), λ big. t ∙ (o g).1 big))
   ];
   leave_times = λ m f g o. dropped_times m f g;
+  leave_no = λ m f o e. sym (dropped_none m f (times_none (times_held m f) (o f).0 e));
   touch_good = λ m f o. o;
   touch_times = λ m f g o. refl;
   clear_good = λ m o g. (omega arith, λ big. refl);
