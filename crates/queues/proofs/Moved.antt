@@ -97,6 +97,9 @@ module _ (next prev : List ℕ) (place : List (Option ℕ)) (first f : ℕ) (m :
     pub free_yes : true ≡ eqb (times_held m f) 0
     free_yes = sym (eq-eqb _ _ free_is)
 
+    pub free_unheld : false ≡ eqb (times_held m f) 1
+    free_unheld = sym (ne_eqb _ _ (λ e. let z = free_is in omega arith))
+
     pub free_same : m ≡ dropped m f
     free_same = dropped_none m f free_is
 

@@ -1,9 +1,10 @@
 -- Statements: Links, Five, Names and Laws.
--- Proofs of laws: Weight and Lawful, for a ghost member; the five behind them, on the links, serve proofs/ alone.
+-- Proofs of laws: Parted, Weight and Lawful, for ghost members; the five behind them, on the links, serve proofs/ alone.
 pub mod Links
 pub mod Five
 pub mod Names
 pub mod Laws
+pub mod Parted
 pub mod Weight
 pub mod Lawful
 pub mod Rings

@@ -4,7 +4,7 @@ use std::marker::Model;
 
 /// Links from node to node, one way. A node is a frame, 0 to 255, or the end mark of a queue, 256 to 260. Clauses see where
 /// the link of each node leads, as one list.
-#[derive(Drop)]
+#[derive(Clone, Copy)]
 pub struct Chain {
     // where the link of each frame leads; the rules ask for an array of 256 links
     frames: [u16; 256],
@@ -13,13 +13,18 @@ pub struct Chain {
 }
 
 impl Model for Chain {
-    ghost use Rattle.std.specs.Prelude.{◌≡◌, ℕ, List, ◌++◌, length};
+    ghost use Rattle.std.specs.Prelude.{◌≡◌, ℕ, List, ◌++◌, length, take, drop};
+    ghost use Rattle.queues.specs.Parted.{parted_same};
 
     ghost Value = { List ℕ };
 
     ghost view = { λ c. c.frames ++ c.ends };
 
     ghost invariant = { λ c. (length c.frames ≡ 256) × (length c.ends ≡ 5) };
+
+    ghost inverse = { λ l. record { frames = take 256 l; ends = drop 256 l } };
+
+    ghost inverse_ok = { λ c h. parted_same (λ a b. record { frames = a; ends = b }) 256 c.frames c.ends h.0 };
 }
 
 impl Chain {

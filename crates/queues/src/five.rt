@@ -1,5 +1,5 @@
-ghost use Rattle.std.specs.Prelude.{◌≡◌, IfOk};
-ghost use Rattle.queues.specs.Five.{Good, empty, taken};
+ghost use Rattle.std.specs.Prelude.{◌≡◌, IfOk, if◌then◌else◌, ◌==◌};
+ghost use Rattle.queues.specs.Five.{Good, dropped, empty, free_in, on, taken, times_held};
 ghost use Rattle.queues.specs.Laws.{TakeLaws};
 ghost use Rattle.queues.specs.Names.{frames_of, head_of};
 
@@ -40,7 +40,38 @@ impl FiveQueues {
         ensures after { self.new.queues ≡ (taken self.old.queues keys.old).left }
         ensures laws { TakeLaws self.old.queues keys.old result keys.new self.new.queues }
     {
-        self.queues.pick(keys)
+        let mut queues = self.queues.copied();
+        let frame = queues.pick(keys);
+        *self = FiveQueues { queues };
+        frame
+    }
+
+    // Puts a frame at the tail of a queue. The answer is no, and nothing changes, if it is above 255 or held already.
+    pub(crate) fn put(&mut self, queue: Queue, frame: u16) -> bool
+        ensures answer { result ≡ free_in self.old.queues frame }
+        ensures after { self.new.queues ≡ (if free_in self.old.queues frame then on queue self.old.queues frame else self.old.queues) }
+    {
+        let Ok(frame) = u8::try_from(frame) else {
+            return false;
+        };
+        let mut queues = self.queues.copied();
+        let answer = queues.link(queue, frame);
+        *self = FiveQueues { queues };
+        answer
+    }
+
+    // Drops a frame. The answer is no, and nothing changes, if it is not held.
+    pub(crate) fn remove(&mut self, frame: u16) -> bool
+        ensures answer { result ≡ (times_held self.old.queues frame == 1) }
+        ensures after { self.new.queues ≡ dropped self.old.queues frame }
+    {
+        let Ok(frame) = u8::try_from(frame) else {
+            return false;
+        };
+        let mut queues = self.queues.copied();
+        let answer = queues.unlink(frame);
+        *self = FiveQueues { queues };
+        answer
     }
 
     /// The frames of a queue, the head first.

@@ -52,6 +52,18 @@ impl LinkedQueues {
         }
     }
 
+    /// The same queues, to be worked on in the place of these.
+    pub fn copied(&self) -> LinkedQueues
+        ensures { result ≡ self.now }
+    {
+        LinkedQueues {
+            next: self.next,
+            prev: self.prev,
+            place: self.place,
+            first: self.first,
+        }
+    }
+
     /// The frame at the head of a queue.
     pub fn head(&self, queue: Queue) -> Option<u8>
         ensures { result ≡ head_of (frames_of self.now queue) }

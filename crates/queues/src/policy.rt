@@ -17,24 +17,15 @@ impl Policy for FiveQueues {
     ghost valid = { λ x. x.good };
 
     fn enter(&mut self, frame: u16) -> bool {
-        let Ok(frame) = u8::try_from(frame) else {
-            return false;
-        };
-        self.queues.link(Queue::Hq, frame)
+        self.put(Queue::Hq, frame)
     }
 
     fn return_frame(&mut self, frame: u16, bits: KeyBits) -> bool {
-        let Ok(frame) = u8::try_from(frame) else {
-            return false;
-        };
-        self.queues.link(Queue::from(bits), frame)
+        self.put(Queue::from(bits), frame)
     }
 
     fn leave(&mut self, frame: u16) -> bool {
-        let Ok(frame) = u8::try_from(frame) else {
-            return false;
-        };
-        self.queues.unlink(frame)
+        self.remove(frame)
     }
 
     fn touch(&mut self, _frame: u16) {}

@@ -1,12 +1,15 @@
 use Rattle.std.proofs.Common.{◌≡◌, is_none, get_or, true, false, None, arith, rules}
-use Rattle.queues.proofs.Moved.{free_same, held_yes, out_linked, out_is}
+use Rattle.queues.proofs.Moved.{free_same, free_unheld, held_yes, out_linked, out_is}
 use Rattle.queues.proofs.linked.LinkedQueues.unlink.Goals as goal
 
-pub returns-then-is_none-clause-after : goal.returns-then-is_none-clause-after
-returns-then-is_none-clause-after c =
+pub returns-then-is_none : goal.returns-then-is_none
+returns-then-is_none c =
     let s = c.self.inside in
     let free : is_none (get_or s.place c.args.frame None) ≡ true = search rules in
-    free_same s.next s.prev s.place s.first c.args.frame c.args.self.now c.self.invariant c.self.view_is (omega arith) free
+    record {
+      answer = free_unheld s.next s.prev s.place s.first c.args.frame c.args.self.now c.self.invariant c.self.view_is (omega arith) free;
+      after = free_same s.next s.prev s.place s.first c.args.frame c.args.self.now c.self.invariant c.self.view_is (omega arith) free;
+    }
 
 pub invariant_of-self : goal.invariant_of-self
 invariant_of-self c =

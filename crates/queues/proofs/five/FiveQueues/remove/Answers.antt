@@ -1,8 +1,8 @@
-use Rattle.std.proofs.Common.{sym, subst, arith}
-use Rattle.queues.specs.Five.{Good}
+use Rattle.std.proofs.Common.{sym, subst, ap, ◌∙◌, arith}
+use Rattle.queues.specs.Five.{Good, dropped}
 use Rattle.queues.specs.Lawful.{five_lawful}
 use Rattle.queues.specs.Played.{big_left}
-use Rattle.queues.proofs.policy.FiveQueuesPolicy.leave.Goals as goal
+use Rattle.queues.proofs.five.FiveQueues.remove.Goals as goal
 
 pub returns-in_default-clause-after : goal.returns-in_default-clause-after
 returns-in_default-clause-after c = let s = c.args.self.now in big_left s.queues c.args.frame s.good (omega (arith, c.in_default.ensures))
@@ -10,4 +10,6 @@ returns-in_default-clause-after c = let s = c.args.self.now in big_left s.queues
 pub invariant_of-self : goal.invariant_of-self
 invariant_of-self c =
     let s = c.args.self.now in
-    record { good = subst Good (sym c.unlink.ensures.after) (five_lawful.leave_good s.queues c.in-Ok.frame s.good) }
+    let f = c.in-Ok.frame in
+    let after = c.unlink-answer.ensures.after ∙ ap (λ m. dropped m f) c.copied-queues.ensures in
+    record { good = subst Good (sym after) (five_lawful.leave_good s.queues f s.good) }
