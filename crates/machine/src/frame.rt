@@ -74,7 +74,7 @@ impl<T: Translator, P: Policy, S: PageStore> Machine<T, P, S> {
         self.own.state.fix(frame);
     }
 
-    // Freed once: at 0 the frame goes back to the policy with its reference and change bit.
+    // Freed once: at 0 the frame is returned to the policy with its reference and change bit.
     pub(crate) fn free_frame(&mut self, frame: u8)
         ensures { (s : List ℕ) → world T.Translator P.Policy S.PageStore self.new s ≡ freed_in (rules T.Translator P.Policy S.PageStore) frame (world T.Translator P.Policy S.PageStore self.old s) }
     {

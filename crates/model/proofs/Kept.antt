@@ -26,7 +26,7 @@ use Rattle.storage.specs.Over.{laws}
 use Rattle.translation.specs.Translator as translators
 
 module _ {T P S : Type 0} (r : Parts T P S) (law : LawfulParts r) where
-  -- the translator asked for an address whose page is ready, the frame's key marked, the policy told
+  -- the translator asked for an address whose page is ready, the frame's key set, the policy told
   module _ (w next : World T P S) (a key f : ℕ) (d : Ready r (a / 2048) key w f next) (new_key : ℕ)
       (same : access_of new_key ≡ access_of (get_or next.keys f 0)) where
     keyed_body : Body r next.config (set next.keys f new_key) next.records (r.translator.translate next.translator next.storage a).left next.store

@@ -158,7 +158,7 @@ module _ {T P S : Type 0} (r : Parts T P S) where
     store = w.store;
   }
 
-  -- Freed once: at 0 the frame goes back to the policy with its reference and change bit.
+  -- Freed once: at 0 the frame is returned to the policy with its reference and change bit.
   abbrev pub freed_in : ℕ → World T P S → World T P S
   freed_in f w = record {
     config = w.config;

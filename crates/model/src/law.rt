@@ -11,10 +11,11 @@ use translation::Translator;
 /// Whatever the translator, the policy and the page store are: after an answered IPL every list of calls is answered as
 /// the flat machine answers it, and every list of calls each handed any main storage leaves the machine consistent. IPL
 /// writes its tables and alters no other byte; a refused one leaves everything as found. In a consistent machine, on any
-/// main storage, the frame found for a page is the pageable frame whose record names it, or none where no record does; the
-/// tests of the tables say just whether they are what IPL, partitions and frame table give, for a page, for every page that
-/// a record names, and for every entry; and once a call has passed its tests the policy hands over a pageable frame, the
-/// translator answers the byte of the page's frame, and the slot of each page can be read and written.
+/// main storage, the frame found for a partition page is the pageable frame whose record names it, or none where no record
+/// does; once a call has passed its tests the policy hands over a pageable frame, and the translator answers the byte of the
+/// page's frame; and the slot of each partition page can be read and written. The tests of the tables say just whether they
+/// are what IPL, partitions and frame table give: for a partition page, and, on main storage of its length, for every page
+/// that a record names and for every entry.
 pub fn law_stands<T: Translator, P: Policy, S: PageStore>(_translator: &T, _policy: &P, _store: &S)
     ensures law { LawOf (parts_of T.Translator.rules P.Policy.rules S.PageStore.rules) }
     ensures tables { TablesOf }

@@ -64,7 +64,7 @@ impl<T: Translator, P: Policy, S: PageStore> Own<T, P, S> {
         }
     }
 
-    // Ends the stay of a page in a frame: a changed page is put out and its bit 15 goes off; its entry becomes invalid
+    // Takes a page out of its frame: a changed page is put out and its bit 15 goes off; its entry becomes invalid
     // with its access key, its pairs end, and the record names no page.
     fn vacate(&mut self, storage: &mut [u8], frame: u8, old: u16)
         ensures { seen T.Translator P.Policy S.PageStore self.new storage.new ≡ emptying (rules_of T.Translator P.Policy S.PageStore) true (changed (slice_index self.old.keys frame)) frame old (seen T.Translator P.Policy S.PageStore self.old storage.old) }

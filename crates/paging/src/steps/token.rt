@@ -38,14 +38,14 @@ pub type Filled = TakenFrame<step::Filled>;
 
 impl<Step> TakenFrame<Step> {
     /// The number of the taken frame, 0 to 255.
-    pub fn frame(&self) -> u8
+    pub(super) fn frame(&self) -> u8
         ensures { result ≡ self.now.frame }
     {
         self.frame
     }
 
     /// The page for which it was taken.
-    pub fn page(&self) -> u16
+    pub(super) fn page(&self) -> u16
         ensures { result ≡ self.now.page }
     {
         self.page
