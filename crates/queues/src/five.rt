@@ -7,7 +7,8 @@ use super::linked::LinkedQueues;
 use super::queue::Queue;
 use std::alloc::{AllocError, Global};
 
-/// The frame policy of five queues.
+/// The frame policy of five queues. A call that changes anything works in a copy of the queues, and writes the whole value
+/// once, from the copy.
 // The law `valid` of a policy sees of `queues` what clauses see, and not what their type keeps: so `good` stands beside them.
 #[derive(Drop)]
 pub struct FiveQueues {
