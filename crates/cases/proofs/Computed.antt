@@ -9,7 +9,7 @@ use Rattle.queues.specs.Five.{steps}
 use Rattle.queues.specs.Laws.{turns}
 use Rattle.storage.specs.Bytes.{half, page, put_half, put_page, put_word, word, zeros}
 use Rattle.tables.specs.Walk.{checked, walk}
-use Rattle.cases.specs.Cases.{CaseA, CaseE, CaseF, CaseG, CaseH, Cases, emptied, loaded, stored, turning}
+use Rattle.cases.specs.Cases.{CaseA, CaseC, CaseD, CaseE, CaseF, CaseG, CaseH, CaseI, Cases, emptied, loaded, stored, turning}
 use Rattle.cases.specs.Worked.{ready}
 
 -- Names all that the machine computes with: who unfolds it unfolds that.
@@ -21,22 +21,34 @@ case_a : CaseA
 unfolding opening
 case_a = record { started = refl; words = refl; left = refl }
 
+case_c : CaseC
+unfolding opening
+case_c = record { given = refl; told = refl }
+
+case_d : CaseD
+unfolding opening
+case_d = record { given = refl; told = refl }
+
 case_e : CaseE
 unfolding opening
-case_e = record { says = refl; left = refl; entry = refl }
+case_e = record { steps = refl; says = refl; entry = refl }
 
 case_f : CaseF
 unfolding opening
-case_f = record { says = refl; first = refl; before = refl; turned = refl; left = refl; entry = refl }
+case_f = record { steps = refl; says = refl; turned = refl; entry = refl }
 
 case_g : CaseG
 unfolding opening
-case_g = record { says = refl; first = refl; second = refl; slot = refl; entry = refl }
+case_g = record { steps = refl; says = refl; slot = refl; entry = refl }
 
 case_h : CaseH
 unfolding opening
-case_h = record { says = refl; left = refl }
+case_h = record { steps = refl; says = refl }
+
+case_i : CaseI
+unfolding opening
+case_i = record { answered = refl; says = refl }
 
 pub cases : Cases
 unfolding opening
-cases = record { a = case_a; b = refl; c = refl; d = refl; e = case_e; f = case_f; g = case_g; h = case_h; i = refl }
+cases = record { a = case_a; b = refl; c = case_c; d = case_d; e = case_e; f = case_f; g = case_g; h = case_h; i = case_i }

@@ -9,12 +9,12 @@ use Rattle.translation.specs.Walked.{walker_lawful}
 use Rattle.translation.specs.Layers.{walker_rules}
 use Rattle.cases.proofs.Computed.{cases}
 use Rattle.cases.specs.Governed.{Governed}
-use Rattle.cases.specs.Worked.{off, parts, ready, sizes}
+use Rattle.cases.specs.Worked.{parts, ready, sizes, wired}
 
 lawful : LawfulParts parts
 lawful = record { translator = tlb_lawful walker_rules walker_lawful; policy = five_lawful; store = set_lawful }
 
-good : GoodParts parts (off 5 31).translator (off 5 31).policy (off 5 31).store
+good : GoodParts parts wired.translator wired.policy wired.store
 good = record { translator = (tt, omega arith); policy = λ f. (omega arith, λ h. refl); store = tt }
 
 pub governed : Governed
@@ -22,6 +22,6 @@ unfolding ready
 governed = record {
   lawful = lawful;
   good = good;
-  whole = λ calls. law_of parts lawful sizes (off 5 31) good cases.a.started calls;
-  disturbed = λ calls. steady_of parts lawful sizes (off 5 31) good cases.a.started calls;
+  whole = λ calls. law_of parts lawful sizes wired good cases.a.started calls;
+  disturbed = λ calls. steady_of parts lawful sizes wired good cases.a.started calls;
 }

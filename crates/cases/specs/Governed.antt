@@ -4,11 +4,11 @@ use Rattle.model.specs.declared.calls.Call.{Call}
 use Rattle.model.specs.Flat.{blank}
 use Rattle.model.specs.Law.{Sound, Steady}
 use Rattle.model.specs.World.{GoodParts, LawfulParts}
-use Rattle.cases.specs.Worked.{off, parts, ready, sizes}
+use Rattle.cases.specs.Worked.{parts, ready, sizes, wired}
 
 pub record Governed : Type 0 where
   pub lawful : LawfulParts parts
-  pub good : GoodParts parts (off 5 31).translator (off 5 31).policy (off 5 31).store
+  pub good : GoodParts parts wired.translator wired.policy wired.store
   -- every list of calls, beside the flat machine
   pub whole : (calls : List Call) → Sound parts calls ready (blank sizes)
   -- every list of calls, each handed any main storage

@@ -16,7 +16,8 @@ use Rattle.model.specs.Refusals.{decode_fix, decode_load, decode_store}
 use Rattle.model.specs.Steps as steps
 use Rattle.model.specs.Steps.{worked}
 use Rattle.model.specs.World.{Config}
-use Rattle.cases.specs.Worked.{Machine, off, parts, partition}
+use Rattle.cases.specs.Table.{partition}
+use Rattle.cases.specs.Worked.{Machine, off, parts}
 
 -- How a frame is emptied: from the machine before Take, the frame, and the machine after Take.
 abbrev pub Emptying : Type 0

@@ -1,9 +1,7 @@
--- The worked machine: five queues, a TLB over the walker, a blank data set of 31 slots; 5 frames, 2 of them the
--- supervisor's, 33 pages, and two partitions.
+-- The worked machine: five queues, a TLB over the walker and a blank data set, with the numbers of Table.
 use Rattle.std.specs.Prelude.{ℕ, ◌*◌, List, [], ◌∷◌, Ok, Err, Result, replicate}
 use Rattle.std.specs.Result.{result_map_both}
 use Rattle.dataset.specs.Format.{blank_set, set_rules}
-use Rattle.model.specs.declared.shape.Partition.{Partition}
 use Rattle.model.specs.declared.calls.Reply.{Reply}
 use Rattle.model.specs.declared.calls.Reply.TheVariants.{Byte, Done}
 use Rattle.model.specs.declared.calls.Call.{Call}
@@ -17,6 +15,8 @@ use Rattle.queues.specs.Five.{Five, empty, five_rules}
 use Rattle.tables.specs.declared.Controls.{Controls}
 use Rattle.translation.specs.declared.pair.Pair.{Pair}
 use Rattle.translation.specs.Layers.{tlb_rules, walker_rules}
+use Rattle.cases.specs.declared.table.Configuration.{Configuration}
+use Rattle.cases.specs.Table.{configured}
 
 -- The three parts, and what their values are.
 abbrev pub Translating : Type 0
@@ -27,10 +27,6 @@ Machine = World Translating Five (List ℕ)
 
 abbrev pub parts : Parts Translating Five (List ℕ)
 parts = parts_of (tlb_rules walker_rules) five_rules set_rules
-
--- A partition: its first page, how many pages it has, its key.
-abbrev pub partition : ℕ → ℕ → ℕ → Partition
-partition first count key = record { first = first; count = count; key = key }
 
 -- A machine before its first IPL, with so many frames of zero bytes and so many blank slots.
 abbrev pub off : ℕ → ℕ → Machine
@@ -44,12 +40,19 @@ off frames slots = record {
   store = blank_set slots;
 }
 
+-- The worked machine before its first IPL, and what IPL is given.
+abbrev pub wired : Machine
+wired = off configured.frames configured.slots
+
+abbrev pub config_of : Configuration → Config
+config_of c = record { frames = c.frames; supervisor = c.supervisor; pages = c.pages; partitions = c.partitions }
+
 abbrev pub sizes : Config
-sizes = record { frames = 5; supervisor = 2; pages = 33; partitions = partition 8 24 1 ∷ partition 32 1 2 ∷ [] }
+sizes = config_of configured
 
 -- The machine after IPL.
 unfoldable pub ready : Machine
-ready = (ipl parts sizes (off 5 31)).1
+ready = (ipl parts sizes wired).1
 
 -- An answer as the tables of cases write it: a byte, done, or the number of a refusal.
 abbrev pub Said : Type 0

@@ -6,7 +6,9 @@ ghost use Rattle.cases.specs.Cases.{Cases};
 ghost use Rattle.cases.specs.Governed.{Governed};
 ghost use Rattle.cases.specs.LosingFaults.{LosingFaults};
 
-/// The nine cases hold of the rules: each is computed from IPL on.
+pub mod table;
+
+/// The nine cases hold of the rules: each is computed from IPL on, and its figures are those of `table::nine_cases`.
 pub fn cases_stand()
     ensures { Cases }
 {}

@@ -7,7 +7,7 @@ ghost use Rattle.model.specs.Steps.{worked};
 ghost use Rattle.storage.specs.Bytes.{half, word};
 ghost use Rattle.tables.specs.Walk.{walk};
 
-use crate::stated::{FRAMES, Held, Row, SHOWN, SLOTS};
+use cases::table::{Configuration, Held, Row};
 use dataset::data_set::DataSet;
 use frames::Policy;
 use layout::entries::entry;
@@ -31,9 +31,9 @@ pub struct Board {
 
 impl Board {
     /// Before IPL, with blank slots and zeros in main storage.
-    pub fn new(heap: Global) -> anyhow::Result<Board> {
-        let slots = DataSet::blank(heap, SLOTS)?;
-        let storage = vec![in heap; 0u8; FRAMES * PAGE]?;
+    pub fn new(heap: Global, configuration: &Configuration) -> anyhow::Result<Board> {
+        let slots = DataSet::blank(heap, configuration.slots)?;
+        let storage = vec![in heap; 0u8; configuration.frames as usize * PAGE]?;
         Ok(Board {
             machine: Machine::new(Tlb::over(Walker::new()), FiveQueues::new(), slots),
             storage,
@@ -101,15 +101,15 @@ impl Board {
             && storage::byte(self.machine.keys(), frame as usize) == key
     }
 
-    // Whether the pageable frames have these pages and storage keys.
-    fn has_frames(&self, pages: &[u16; 3], keys: &[u8; 3]) -> bool {
-        (0..3).all(|i| self.has_frame(SHOWN[i], pages[i], keys[i]))
+    // Whether frames have the pages and the storage keys of a row.
+    fn has_frames(&self, frames: &[u8; 3], row: &Row) -> bool {
+        (0..3).all(|i| self.has_frame(frames[i], row.pages[i], row.keys[i]))
     }
 
-    /// Whether the pageable frames, their storage keys and the queues are as in a row.
-    pub fn is_at(&self, heap: Global, row: &Row) -> Result<bool, AllocError> {
+    /// Whether the pages in some frames, their storage keys and the queues are as in a row.
+    pub fn is_at(&self, heap: Global, frames: &[u8; 3], row: &Row) -> Result<bool, AllocError> {
         let held = self.held(heap)?;
-        Ok(self.has_frames(&row.pages, &row.keys) && held.as_slice() == &row.held[..])
+        Ok(self.has_frames(frames, row) && held.as_slice() == &row.held[..])
     }
 
     /// Whether a slot holds a byte, and zeros behind it.

@@ -3,10 +3,10 @@
 #![tactic(auto)]
 
 mod board;
-mod cases;
-mod stated;
+mod play;
 
 use board::Board;
+use cases::table::nine_cases;
 
 // Prints the letter of a case, and how what is seen compares.
 fn show(rt: &HostRuntime, letter: char, same: bool) -> anyhow::Result<()> {
@@ -18,14 +18,15 @@ fn show(rt: &HostRuntime, letter: char, same: bool) -> anyhow::Result<()> {
 fn main(rt: HostRuntime) -> anyhow::Result<()> {
     let heap = rt.alloc();
     // A to H are one run.
-    let mut board = Board::new(heap)?;
-    show(&rt, 'A', cases::a(&mut board, heap)?)?;
-    show(&rt, 'B', cases::b(&board))?;
-    show(&rt, 'C', cases::c(&board))?;
-    show(&rt, 'D', cases::d(&board))?;
-    show(&rt, 'E', cases::e(&mut board, heap)?)?;
-    show(&rt, 'F', cases::f(&mut board, heap)?)?;
-    show(&rt, 'G', cases::g(&mut board, heap)?)?;
-    show(&rt, 'H', cases::h(&mut board, heap)?)?;
-    show(&rt, 'I', cases::i(heap)?)
+    let table = nine_cases();
+    let mut board = Board::new(heap, &table.configuration)?;
+    show(&rt, 'A', play::a(&mut board, heap, &table)?)?;
+    show(&rt, 'B', play::b(&board, &table))?;
+    show(&rt, 'C', play::c(&board, &table))?;
+    show(&rt, 'D', play::d(&board, &table))?;
+    show(&rt, 'E', play::e(&mut board, heap, &table)?)?;
+    show(&rt, 'F', play::f(&mut board, heap, &table)?)?;
+    show(&rt, 'G', play::g(&mut board, heap, &table)?)?;
+    show(&rt, 'H', play::h(&mut board, heap, &table)?)?;
+    show(&rt, 'I', play::i(heap, &table)?)
 }
