@@ -1,7 +1,11 @@
 //! The worked machine, its main storage, and what is seen of both.
-ghost use Rattle.std.specs.Prelude.{◌≡◌, ◌==◌, ◌&&◌, [], slice_index};
+ghost use Rattle.std.specs.Prelude.{◌≡◌, ◌==◌, ◌&&◌, [], slice_index, IfOk};
 ghost use Rattle.std.specs.List.{list_all};
+ghost use Rattle.cases.specs.Cases.{held_by, held_of};
+ghost use Rattle.cases.specs.Worked.{off};
+ghost use Rattle.layout.specs.Config.{config_with};
 ghost use Rattle.machine.specs.Machine.{Does, world};
+ghost use Rattle.model.specs.Ipl.{ipl};
 ghost use Rattle.model.specs.Layout.{entry_at, page_in};
 ghost use Rattle.model.specs.Steps.{worked};
 ghost use Rattle.storage.specs.Bytes.{half, word};
@@ -12,7 +16,7 @@ use dataset::data_set::DataSet;
 use frames::Policy;
 use layout::entries::entry;
 use machine::Machine;
-use model::calls::{Answer, Call};
+use model::calls::{Answer, Call, IplRefusal};
 use pages::store::PageStore;
 use queues::{FiveQueues, Queue};
 use runs::start::Start;
@@ -31,20 +35,23 @@ pub struct Board {
 
 impl Board {
     /// Before IPL, with blank slots and zeros in main storage.
-    pub fn new(heap: Global, configuration: &Configuration) -> anyhow::Result<Board> {
+    pub fn new(heap: Global, configuration: &Configuration) -> anyhow::Result<Board>
+        ensures { IfOk result (λ b. world ⟦<Tlb<Walker> as Translator>⟧ ⟦<FiveQueues as Policy>⟧ ⟦<DataSet as PageStore>⟧ b.machine b.storage.items ≡ off configuration.now.frames configuration.now.slots) }
+    {
         let slots = DataSet::blank(heap, configuration.slots)?;
-        let storage = vec![in heap; 0u8; configuration.frames as usize * PAGE]?;
+        let storage = vec![in heap; 0u8; PAGE * configuration.frames as usize]?;
         Ok(Board {
             machine: Machine::new(Tlb::over(Walker::new()), FiveQueues::new(), slots),
             storage,
         })
     }
 
-    /// IPL: whether it is answered.
-    pub fn ipl(&mut self, start: Start) -> bool {
+    /// IPL.
+    pub fn ipl(&mut self, start: Start) -> Result<(), IplRefusal>
+        ensures { Does ⟦<Tlb<Walker> as Translator>⟧ ⟦<FiveQueues as Policy>⟧ ⟦<DataSet as PageStore>⟧ (λ q w. ipl q (config_with start.entry.sizes start.entry.partitions.now) w) result (world ⟦<Tlb<Walker> as Translator>⟧ ⟦<FiveQueues as Policy>⟧ ⟦<DataSet as PageStore>⟧ self.old.machine self.old.storage.items) (world ⟦<Tlb<Walker> as Translator>⟧ ⟦<FiveQueues as Policy>⟧ ⟦<DataSet as PageStore>⟧ self.new.machine self.new.storage.items) }
+    {
         self.machine
             .ipl(&mut self.storage, start.sizes, start.partitions)
-            .is_ok()
     }
 
     /// Makes a call.
@@ -79,17 +86,27 @@ impl Board {
         walk(&self.storage, controls, address)
     }
 
+    // What a queue holds.
+    fn held_by(&self, heap: Global, queue: Queue) -> Result<Vec<Held>, AllocError>
+        ensures { IfOk result (λ v. v.items ≡ held_by (world ⟦<Tlb<Walker> as Translator>⟧ ⟦<FiveQueues as Policy>⟧ ⟦<DataSet as PageStore>⟧ self.now.machine []).policy queue) }
+    {
+        self.machine
+            .policy()
+            .frames(heap, queue)?
+            .iter()
+            .map(|&frame| Held { queue, frame })
+            .collect(heap)
+    }
+
     // What the queues hold, one queue after another.
-    fn held(&self, heap: Global) -> Result<Vec<Held>, AllocError> {
-        let mut held = Vec::new(heap);
-        for queue in Queue::ALL {
-            for frame in &self.machine.policy().frames(heap, queue)? {
-                held.push(Held {
-                    queue,
-                    frame: *frame,
-                })?;
-            }
-        }
+    fn held(&self, heap: Global) -> Result<Vec<Held>, AllocError>
+        ensures { IfOk result (λ v. v.items ≡ held_of (world ⟦<Tlb<Walker> as Translator>⟧ ⟦<FiveQueues as Policy>⟧ ⟦<DataSet as PageStore>⟧ self.now.machine []).policy) }
+    {
+        let mut held = self.held_by(heap, Queue::Q00)?;
+        held.extend_from_slice(&self.held_by(heap, Queue::Q01)?)?;
+        held.extend_from_slice(&self.held_by(heap, Queue::Q10)?)?;
+        held.extend_from_slice(&self.held_by(heap, Queue::Q11)?)?;
+        held.extend_from_slice(&self.held_by(heap, Queue::Hq)?)?;
         Ok(held)
     }
 

@@ -49,7 +49,7 @@ fn played(
 
 /// IPL.
 pub fn a(board: &mut Board, heap: Global, table: &Table) -> Result<bool, AllocError> {
-    let answered = board.ipl(start(&table.configuration));
+    let answered = board.ipl(start(&table.configuration)).is_ok();
     let same = answered && board.has_words(&table.words);
     Ok(same && board.is_at(heap, &table.pageable, &table.started)?)
 }
