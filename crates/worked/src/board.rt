@@ -1,5 +1,5 @@
 //! The worked machine, its main storage, and what is seen of both.
-ghost use Rattle.std.specs.Prelude.{◌≡◌, ◌==◌, ◌&&◌, [], slice_index, IfOk};
+ghost use Rattle.std.specs.Prelude.{◌≡◌, ◌==◌, ◌&&◌, ◌↔◌, [], map, slice_index, IsTrue, IfOk};
 ghost use Rattle.std.specs.List.{list_all};
 ghost use Rattle.cases.specs.Cases.{held_by, held_of};
 ghost use Rattle.cases.specs.Worked.{off};
@@ -31,6 +31,13 @@ use translation::{Tlb, Translator, Walker};
 pub struct Board {
     pub machine: Machine<Tlb<Walker>, FiveQueues, DataSet>,
     pub storage: Vec<u8>,
+}
+
+// Whether two lists of frames that queues hold are the same.
+fn same_held(left: &[Held], right: &[Held]) -> bool
+    ensures { IsTrue result ↔ (left.now ≡ right.now) }
+{
+    left == right
 }
 
 impl Board {
@@ -118,15 +125,27 @@ impl Board {
             && storage::byte(self.machine.keys(), frame as usize) == key
     }
 
-    // Whether frames have the pages and the storage keys of a row.
-    fn has_frames(&self, frames: &[u8; 3], row: &Row) -> bool {
-        (0..3).all(|i| self.has_frame(frames[i], row.pages[i], row.keys[i]))
+    // Whether frames have these pages and storage keys.
+    fn has_frames(&self, frames: &[u8; 3], pages: &[u16; 3], keys: &[u8; 3]) -> bool
+        ensures { let seen = world ⟦<Tlb<Walker> as Translator>⟧ ⟦<FiveQueues as Policy>⟧ ⟦<DataSet as PageStore>⟧ self.now.machine [] in IsTrue result ↔ ((map (page_in seen.records) frames.now ≡ pages.now) × (map (λ f. slice_index seen.keys f) frames.now ≡ keys.now)) }
+    {
+        let [f, g, h] = *frames;
+        let [p, q, r] = *pages;
+        let [k, l, m] = *keys;
+        let first = self.has_frame(f, p, k);
+        let second = self.has_frame(g, q, l);
+        let third = self.has_frame(h, r, m);
+        first && second && third
     }
 
     /// Whether the pages in some frames, their storage keys and the queues are as in a row.
-    pub fn is_at(&self, heap: Global, frames: &[u8; 3], row: &Row) -> Result<bool, AllocError> {
+    pub fn is_at(&self, heap: Global, frames: &[u8; 3], row: &Row) -> Result<bool, AllocError>
+        ensures { let seen = world ⟦<Tlb<Walker> as Translator>⟧ ⟦<FiveQueues as Policy>⟧ ⟦<DataSet as PageStore>⟧ self.now.machine [] in IfOk result (λ same. IsTrue same ↔ ((map (page_in seen.records) frames.now ≡ row.now.pages) × (map (λ f. slice_index seen.keys f) frames.now ≡ row.now.keys) × (held_of seen.policy ≡ row.now.held))) }
+    {
         let held = self.held(heap)?;
-        Ok(self.has_frames(frames, row) && held.as_slice() == &row.held[..])
+        let holds = same_held(&held, &row.held);
+        let has = self.has_frames(frames, &row.pages, &row.keys);
+        Ok(has && holds)
     }
 
     /// Whether a slot holds a byte, and zeros behind it.
