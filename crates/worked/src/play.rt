@@ -24,7 +24,9 @@ fn sizes(configuration: &Configuration) -> Sizes
 }
 
 // What IPL is given.
-fn start(configuration: &Configuration) -> Start<'_> {
+fn start(configuration: &Configuration) -> Start<'_>
+    ensures { config_with result.sizes result.partitions.now ≡ config_of configuration.now }
+{
     Start {
         sizes: sizes(configuration),
         partitions: &configuration.partitions,
