@@ -1,7 +1,11 @@
 //! The worked machine, its main storage, and what is seen of both.
-ghost use Rattle.std.specs.Prelude.{◌≡◌, ◌==◌, ◌&&◌, [], slice_index};
+ghost use Rattle.std.specs.Prelude.{◌≡◌, ◌==◌, ◌&&◌, ◌↔◌, [], map, slice_index, IsTrue, IfOk};
 ghost use Rattle.std.specs.List.{list_all};
+ghost use Rattle.cases.specs.Cases.{held_by, held_of};
+ghost use Rattle.cases.specs.Worked.{off};
+ghost use Rattle.layout.specs.Config.{config_with};
 ghost use Rattle.machine.specs.Machine.{Does, world};
+ghost use Rattle.model.specs.Ipl.{ipl};
 ghost use Rattle.model.specs.Layout.{entry_at, page_in};
 ghost use Rattle.model.specs.Steps.{worked};
 ghost use Rattle.storage.specs.Bytes.{half, word};
@@ -12,7 +16,7 @@ use dataset::data_set::DataSet;
 use frames::Policy;
 use layout::entries::entry;
 use machine::Machine;
-use model::calls::{Answer, Call};
+use model::calls::{Answer, Call, IplRefusal};
 use pages::store::PageStore;
 use queues::{FiveQueues, Queue};
 use runs::start::Start;
@@ -29,22 +33,32 @@ pub struct Board {
     pub storage: Vec<u8>,
 }
 
+// Whether two lists of frames that queues hold are the same.
+fn same_held(left: &[Held], right: &[Held]) -> bool
+    ensures { IsTrue result ↔ (left.now ≡ right.now) }
+{
+    left == right
+}
+
 impl Board {
     /// Before IPL, with blank slots and zeros in main storage.
-    pub fn new(heap: Global, configuration: &Configuration) -> anyhow::Result<Board> {
+    pub fn new(heap: Global, configuration: &Configuration) -> anyhow::Result<Board>
+        ensures { IfOk result (λ b. world ⟦<Tlb<Walker> as Translator>⟧ ⟦<FiveQueues as Policy>⟧ ⟦<DataSet as PageStore>⟧ b.machine b.storage.items ≡ off configuration.now.frames configuration.now.slots) }
+    {
         let slots = DataSet::blank(heap, configuration.slots)?;
-        let storage = vec![in heap; 0u8; configuration.frames as usize * PAGE]?;
+        let storage = vec![in heap; 0u8; PAGE * configuration.frames as usize]?;
         Ok(Board {
             machine: Machine::new(Tlb::over(Walker::new()), FiveQueues::new(), slots),
             storage,
         })
     }
 
-    /// IPL: whether it is answered.
-    pub fn ipl(&mut self, start: Start) -> bool {
+    /// IPL.
+    pub fn ipl(&mut self, start: Start) -> Result<(), IplRefusal>
+        ensures { Does ⟦<Tlb<Walker> as Translator>⟧ ⟦<FiveQueues as Policy>⟧ ⟦<DataSet as PageStore>⟧ (λ q w. ipl q (config_with start.entry.sizes start.entry.partitions.now) w) result (world ⟦<Tlb<Walker> as Translator>⟧ ⟦<FiveQueues as Policy>⟧ ⟦<DataSet as PageStore>⟧ self.old.machine self.old.storage.items) (world ⟦<Tlb<Walker> as Translator>⟧ ⟦<FiveQueues as Policy>⟧ ⟦<DataSet as PageStore>⟧ self.new.machine self.new.storage.items) }
+    {
         self.machine
             .ipl(&mut self.storage, start.sizes, start.partitions)
-            .is_ok()
     }
 
     /// Makes a call.
@@ -79,17 +93,27 @@ impl Board {
         walk(&self.storage, controls, address)
     }
 
+    // What a queue holds.
+    fn held_by(&self, heap: Global, queue: Queue) -> Result<Vec<Held>, AllocError>
+        ensures { IfOk result (λ v. v.items ≡ held_by (world ⟦<Tlb<Walker> as Translator>⟧ ⟦<FiveQueues as Policy>⟧ ⟦<DataSet as PageStore>⟧ self.now.machine []).policy queue) }
+    {
+        self.machine
+            .policy()
+            .frames(heap, queue)?
+            .iter()
+            .map(|&frame| Held { queue, frame })
+            .collect(heap)
+    }
+
     // What the queues hold, one queue after another.
-    fn held(&self, heap: Global) -> Result<Vec<Held>, AllocError> {
-        let mut held = Vec::new(heap);
-        for queue in Queue::ALL {
-            for frame in &self.machine.policy().frames(heap, queue)? {
-                held.push(Held {
-                    queue,
-                    frame: *frame,
-                })?;
-            }
-        }
+    fn held(&self, heap: Global) -> Result<Vec<Held>, AllocError>
+        ensures { IfOk result (λ v. v.items ≡ held_of (world ⟦<Tlb<Walker> as Translator>⟧ ⟦<FiveQueues as Policy>⟧ ⟦<DataSet as PageStore>⟧ self.now.machine []).policy) }
+    {
+        let mut held = self.held_by(heap, Queue::Q00)?;
+        held.extend_from_slice(&self.held_by(heap, Queue::Q01)?)?;
+        held.extend_from_slice(&self.held_by(heap, Queue::Q10)?)?;
+        held.extend_from_slice(&self.held_by(heap, Queue::Q11)?)?;
+        held.extend_from_slice(&self.held_by(heap, Queue::Hq)?)?;
         Ok(held)
     }
 
@@ -101,15 +125,27 @@ impl Board {
             && storage::byte(self.machine.keys(), frame as usize) == key
     }
 
-    // Whether frames have the pages and the storage keys of a row.
-    fn has_frames(&self, frames: &[u8; 3], row: &Row) -> bool {
-        (0..3).all(|i| self.has_frame(frames[i], row.pages[i], row.keys[i]))
+    // Whether frames have these pages and storage keys.
+    fn has_frames(&self, frames: &[u8; 3], pages: &[u16; 3], keys: &[u8; 3]) -> bool
+        ensures { let seen = world ⟦<Tlb<Walker> as Translator>⟧ ⟦<FiveQueues as Policy>⟧ ⟦<DataSet as PageStore>⟧ self.now.machine [] in IsTrue result ↔ ((map (page_in seen.records) frames.now ≡ pages.now) × (map (λ f. slice_index seen.keys f) frames.now ≡ keys.now)) }
+    {
+        let [f, g, h] = *frames;
+        let [p, q, r] = *pages;
+        let [k, l, m] = *keys;
+        let first = self.has_frame(f, p, k);
+        let second = self.has_frame(g, q, l);
+        let third = self.has_frame(h, r, m);
+        first && second && third
     }
 
     /// Whether the pages in some frames, their storage keys and the queues are as in a row.
-    pub fn is_at(&self, heap: Global, frames: &[u8; 3], row: &Row) -> Result<bool, AllocError> {
+    pub fn is_at(&self, heap: Global, frames: &[u8; 3], row: &Row) -> Result<bool, AllocError>
+        ensures { let seen = world ⟦<Tlb<Walker> as Translator>⟧ ⟦<FiveQueues as Policy>⟧ ⟦<DataSet as PageStore>⟧ self.now.machine [] in IfOk result (λ same. IsTrue same ↔ ((map (page_in seen.records) frames.now ≡ row.now.pages) × (map (λ f. slice_index seen.keys f) frames.now ≡ row.now.keys) × (held_of seen.policy ≡ row.now.held))) }
+    {
         let held = self.held(heap)?;
-        Ok(self.has_frames(frames, row) && held.as_slice() == &row.held[..])
+        let holds = same_held(&held, &row.held);
+        let has = self.has_frames(frames, &row.pages, &row.keys);
+        Ok(has && holds)
     }
 
     /// Whether a slot holds a byte, and zeros behind it.

@@ -24,7 +24,9 @@ fn sizes(configuration: &Configuration) -> Sizes
 }
 
 // What IPL is given.
-fn start(configuration: &Configuration) -> Start<'_> {
+fn start(configuration: &Configuration) -> Start<'_>
+    ensures { config_with result.sizes result.partitions.now ≡ config_of configuration.now }
+{
     Start {
         sizes: sizes(configuration),
         partitions: &configuration.partitions,
@@ -49,7 +51,7 @@ fn played(
 
 /// IPL.
 pub fn a(board: &mut Board, heap: Global, table: &Table) -> Result<bool, AllocError> {
-    let answered = board.ipl(start(&table.configuration));
+    let answered = board.ipl(start(&table.configuration)).is_ok();
     let same = answered && board.has_words(&table.words);
     Ok(same && board.is_at(heap, &table.pageable, &table.started)?)
 }
