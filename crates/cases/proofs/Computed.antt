@@ -9,6 +9,7 @@ use Rattle.queues.specs.Five.{steps}
 use Rattle.queues.specs.Laws.{turns}
 use Rattle.storage.specs.Bytes.{half, page, put_half, put_page, put_word, word, zeros}
 use Rattle.tables.specs.Walk.{checked, walk}
+use Rattle.cases.proofs.ToldApart.{told_apart}
 use Rattle.cases.specs.Cases.{CaseA, CaseC, CaseD, CaseE, CaseF, CaseG, CaseH, CaseI, Cases, emptied, loaded, stored, turning}
 use Rattle.cases.specs.Worked.{ready}
 
@@ -51,4 +52,4 @@ case_i = record { answered = refl; says = refl }
 
 pub cases : Cases
 unfolding opening
-cases = record { a = case_a; b = refl; c = case_c; d = case_d; e = case_e; f = case_f; g = case_g; h = case_h; i = case_i }
+cases = record { apart = told_apart; a = case_a; b = refl; c = case_c; d = case_d; e = case_e; f = case_f; g = case_g; h = case_h; i = case_i }

@@ -1,3 +1,4 @@
+pub mod ToldApart
 pub mod Computed
 pub mod Refuted
 pub mod Governed

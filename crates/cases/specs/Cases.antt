@@ -55,6 +55,10 @@ held_by m q = map (λ f. on_queue q f) (frames_of m q)
 abbrev pub held_of : Five → List Held
 held_of m = held_by m Q00 ++ held_by m Q01 ++ held_by m Q10 ++ held_by m Q11 ++ held_by m Hq
 
+-- The five queues are told whole: no others are told alike.
+abbrev pub ToldApart : Type 0
+ToldApart = (m n : Five) → held_of m ≡ held_of n → m ≡ n
+
 -- The pages in the pageable frames, the storage keys of these frames, and what the queues hold.
 abbrev pub shown : Machine → Row
 shown w =
@@ -148,8 +152,9 @@ pub record CaseI : Type 0 where
   pub answered : answers calls_i ready ≡ answers_i
   pub says : said calls_i ready ≡ done ∷ done ∷ done ∷ refused 35 ∷ byte 0 ∷ done ∷ byte 0 ∷ refused 38 ∷ []
 
--- The nine cases.
+-- The nine cases, and what their rows tell of the queues.
 pub record Cases : Type 0 where
+  pub apart : ToldApart
   pub a : CaseA
   pub b : entries_seen entries_b ready ≡ entries_b
   pub c : CaseC
